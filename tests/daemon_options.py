@@ -55,7 +55,7 @@ FORMS = [it.split(" ") for it in (
     "|--announce-submounts --no-announce-submounts|--no-announce-submounts --announce-submounts|--killpriv-v2 --no-killpriv-v2|-d -f -d|--sandbox none --sandbox chroot|--sandbox chroot --sandbox none|--sandbox chroot -o sandbox=namespace"
     "|--sandbox x --sandbox none|-o sandbox=namespace --sandbox chroot|-o sandbox=chroot --sandbox none|-o sandbox=chroot,sandbox=namespace|-fosandbox=chroot|-fosandbox=chroot -o sandbox=namespace|--sandbox none -o sandbox=namespace"
     "|--sandbox CHROOT|--uid-map :0:100000:65536: --gid-map :0:100000:65536:|--uid-map :0:100000:65536: --sandbox none|--gid-map :0:100000:65536: --sandbox none|--uid-map :0:100000:65536: --sandbox none -o sandbox=namespace"
-    "|--uid-map :0:65534:1: --gid-map :0:65534:1:|--uid-map :0:65534:1: --uid-map :1:100000:10: --gid-map :0:65534:1:|--uid-map :0:100000:65537:|--uid-map :0:5:1:|--uid-map :0:100000:10: --sandbox chroot"
+    "|--uid-map :0:65534:1: --gid-map :0:65534:1:|--uid-map :0:65534:1: --uid-map :1:100000:10: --gid-map :0:65534:1:|--uid-map :0:100000:65537:|--uid-map :0:5:1:|--uid-map :5:65534:0: --gid-map :65534:65534:0:|--uid-map :1:100000:65535: --gid-map :1:100000:65535:|--uid-map :0:100000:10: --sandbox chroot"
     "|--fd 3|--fd 3 --socket x|--socket x|--socket-path x|--socket-group root --fd 3|--socket-group root --print-capabilities|--print-capabilities|--shared-dir /|--shared-dir / --shared-dir /|--syslog=on"
 ).split("|")] + [["--tag", ""], ["--tag="], ["--xattrmap", ""], ["--xattrmap="], ["--translate-uid="], ["--sandbox="], ["--modcaps="], ["--socket="], ["--shared-dir="], ["--inode-file-handles="], ["--xattr="], ["--xattr=true"], [""], ["--xattr", ""]]
 AS = {"root": [], "nobody": ["setpriv", "--reuid=65534", "--regid=65534", "--clear-groups"]}
@@ -123,7 +123,7 @@ def record(daemon):
 
 def differences(program, row):
     line = [program, "--", "virtiofsd", "--shared-dir=/srv", "--socket-path=/run/socket", *row["words"]]
-    it = subprocess.run(line, capture_output=True, text=True, timeout=60)
+    it = subprocess.run([program, "--run-as=65534:65534", *line[1:]], capture_output=True, text=True, timeout=60)
     takes = it.returncode in (0, 5) and "unknown" not in it.stderr and "--posix-acl does not go" not in it.stdout
     if takes != row["takes"]:
         return f"the daemon {'takes' if row['takes'] else 'refuses'} it, and here status {it.returncode}: {it.stderr!r:.300}"

@@ -203,6 +203,25 @@ def files(room, _):
     yield "root, to whom no line gives ids", ["--run-as", "0:0", *both(given), *daemon_of(100000, 65536)], 5, "the first --uid-map has ids that the user may not"
     yield "a number that is no user's", ["--run-as", "4294967295:5", *both(given), *daemon_of(1, 1)], 2, "'4294967295:5' is no user"
     yield "a number that is no group's", ["--run-as", "5:4294967295", *both(given), *daemon_of(1, 1)], 2, "'5:4294967295' is no user"
+    yield "a user by name", ["--run-as", user.pw_name, *both(given), *daemon_of(200000, 1000)], 0, f"started by user {user.pw_uid}\n"
+    yield "a user by name, and a group", ["--run-as", f"{user.pw_name}:4321", *both(given), *daemon_of(200000, 1000)], 5, "the first --uid-map has ids that the user may not"
+    yield "a user by name, and no group", ["--run-as", f"{user.pw_name}:", *both(given), *daemon_of(200000, 1000)], 2, f"'{user.pw_name}:' is no user"
+    for words in (["sudo", "-u", user.pw_name], ["sudo", f"-u#{user.pw_uid}"], ["runuser", f"--user={user.pw_name}", "--"], ["su", "-", user.pw_name, "-c"],
+                  ["systemd-run", "-p", f"User={user.pw_name}"], ["gosu", f"{user.pw_name}:{user.pw_gid}"]):
+        name = " ".join(words)
+        yield f"a user whom words name: {name}", [*both(given), "--", *words, *daemon_of(200000, 1000)[1:]], 0, f"started by user {user.pw_uid}\n"
+        yield f"one to whom no line gives ids: {name}", [*both(none), "--", *words, *daemon_of(200000, 1000)[1:]], 5, "the first --uid-map has ids that the user may not"
+        yield f"one without ranges: {name}", ["--", *words, "virtiofsd"], 5, f"the daemon acts as user {user.pw_uid} alone"
+    yield "--run-as counts before such words", ["--run-as", "4321:4321", *both(given), "--", "sudo", "-u", user.pw_name, *daemon_of(100000, 65536)[1:]], 0, "started by user 4321\n"
+    alike = ["sudo", "-u", user.pw_name, *daemon_of(200000, 1000)[1:]]
+    yield "two guests by the same words", [*both(given), "--", *alike, "--", *alike], 5, "guests 1 and 2, started by user"
+    ranges = ["--uid-map=:1:100000:65535:", "--gid-map=:1:100000:65535:", *(f"--translate-{it}=forbid-guest:{but}" for it in ("uid", "gid") for but in ("0:1", "65536:4294901759"))]
+    outside = ["--run-as", "4321:4321", *both(given), "--", "virtiofsd", *ranges]
+    yield "ranges with neither 0 nor the own id", outside, 5, "no file can be created as user 65534"
+    yield "the same, with the own id", [*outside, "--uid-map=:70000:4321:1:", "--gid-map=:70000:4321:1:"], 0, "nothing found"
+    for count in (0, 1):
+        own = [f"--{it}-map=:4321:4321:{count}:" for it in ("uid", "gid")]
+        yield f"a range of the own id with the count {count}", ["--run-as", "4321:4321", *both(none), "--", "virtiofsd", *own], 5, "the daemon acts as user 4321 alone"
     yield "files for no user", [*both(given), *daemon_of(1, 1)], 2, "'--subuid' and '--subgid' are for '--run-as'"
     kinds = Path(room, "kinds")
     kinds.write_text("# what is meant to be so\nkept lacking # two\n\n\troot#\n", encoding="ascii")

@@ -1,5 +1,6 @@
 -- Names of access control lists that pass as others.
-use Rattle.std.proofs.Common.{ℕ, List, ◌++◌, Result, Ok, Err, OnOk, refl}
+use Rattle.std.proofs.lemmas.Grind.{common_steps}
+use Rattle.std.proofs.Common.{ℕ, List, Result, OnOk, arith}
 use Rattle.virtiofs_map.specs.Rule.{MappingRule}
 use Rattle.virtiofs_findings.proofs.ListLemmas.{in_two}
 use Rattle.virtiofs_findings.specs.AclNames.{FindsAclName, FindsAclNames}
@@ -11,15 +12,4 @@ use Rattle.virtiofs_findings.specs.declared.names.acl.AclName.TheVariants.{Acces
 pub acl_found : {A V E : Type 0} (r : Result V E) (number : ℕ) (rules : List MappingRule) (a b c : List (Finding A))
     → Adds (FindsAclName number rules Access) a b → OnOk r (Adds (FindsAclName number rules Default) b c)
     → OnOk r (Adds (FindsAclNames number rules) a c)
-acl_found (Ok x) number rules a b c access default = record {
-  more = access.more ++ default.more;
-  is = record {
-    of_access = access.more;
-    of_default = default.more;
-    access = access.is;
-    default = default.is;
-    whole = refl;
-  };
-  added = in_two a access.more default.more b c access.added default.added;
-}
-acl_found (Err e) number rules a b c access default = tt
+acl_found r number rules a b c access default = grind (arith, common_steps, in_two)

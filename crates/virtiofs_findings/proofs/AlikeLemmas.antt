@@ -1,7 +1,8 @@
 -- Guests with the same options.
-use Rattle.std.proofs.Common.{◌≡◌, refl, sym, ap, ◌∙◌, arith, ℕ, ◌+◌, ◌<◌, ◌≤◌, Bool, true, false, List, [], ◌∷◌, ◌++◌, length, take, get_or}
+use Rattle.std.proofs.lemmas.Grind.{common_steps}
+use Rattle.std.proofs.Common.{◌≡◌, sym, ap, ◌∙◌, arith, ℕ, ◌+◌, ◌<◌, ◌≤◌, Bool, true, false, List, [], ◌∷◌, ◌++◌, length, take, get_or}
 use Rattle.std.proofs.Common.{append-nil, if◌then◌else◌}
-use Rattle.std.proofs.lemmas.List.{take_all, length-take-le}
+use Rattle.std.proofs.lemmas.List.{length-take-le}
 use Rattle.virtiofs_findings.proofs.ListLemmas.{more_at}
 use Rattle.virtiofs_findings.specs.AlikeGuests.{have_same_options, numbers_alike, alike_of}
 use Rattle.virtiofs_findings.specs.declared.alike.Alike.{Alike}
@@ -12,35 +13,21 @@ abbrev put_if : Bool → ℕ → List ℕ → List ℕ
 put_if b n ns = if b then n ∷ ns else ns
 
 put_before : (b : Bool) (n : ℕ) (ns more : List ℕ) → put_if b n (ns ++ more) ≡ put_if b n ns ++ more
-put_before true n ns more = refl
-put_before false n ns more = refl
-
-put_few : (b : Bool) (n : ℕ) (ns : List ℕ) → length (put_if b n ns) ≤ length ns + 1
-put_few true n ns = omega arith
-put_few false n ns = omega arith
+put_before b n ns more = grind arith
 
 -- there are no more numbers than guests
 numbers_few : {A : Type 0} (guest : Guest A) (number : ℕ) (guests : List (Guest A))
     → length (numbers_alike guest number guests) ≤ length guests
 numbers_few guest number [] = omega arith
-numbers_few guest number (other ∷ guests) =
-    let later = numbers_few guest (number + 1) guests in
-    let one = put_few (have_same_options other guest) number (numbers_alike guest (number + 1) guests) in
-    omega (arith, later, one)
+numbers_few guest number (other ∷ guests) = grind (arith, numbers_few guest (number + 1) guests)
 
 -- one more guest
 numbers_more : {A : Type 0} (guest : Guest A) (number : ℕ) (guests : List (Guest A)) (other : Guest A)
     → numbers_alike guest number (guests ++ other ∷ [])
     ≡ numbers_alike guest number guests ++ put_if (have_same_options other guest) (number + length guests) []
-numbers_more guest number [] other =
-    ap (λ (n : ℕ). put_if (have_same_options other guest) n []) (omega arith)
+numbers_more guest number [] other = grind arith
 numbers_more guest number (first ∷ guests) other =
-    ap (put_if (have_same_options first guest) number)
-    (numbers_more guest (number + 1) guests other
-    ∙ ap (λ (n : ℕ). numbers_alike guest (number + 1) guests ++ put_if (have_same_options other guest) n [])
-    (omega arith))
-    ∙ put_before (have_same_options first guest) number (numbers_alike guest (number + 1) guests)
-    (put_if (have_same_options other guest) (number + length (first ∷ guests)) [])
+    grind (arith, numbers_more guest (number + 1) guests other, put_before)
 
 -- the numbers of the guests before a place, and of the one at it
 numbers_at : {A : Type 0} (guests : List (Guest A)) (place : ℕ) (guest other : Guest A)
@@ -48,27 +35,16 @@ numbers_at : {A : Type 0} (guests : List (Guest A)) (place : ℕ) (guest other :
     → numbers_alike guest 1 (take (place + 1) guests)
     ≡ numbers_alike guest 1 (take place guests) ++ put_if (have_same_options other guest) (place + 1) []
 numbers_at guests place guest other is below =
-    let count : length (take place guests) ≡ place = length-take-le place guests (omega (arith, below)) in
-    let numbered : 1 + length (take place guests) ≡ place + 1 = omega (arith, count) in
-    ap (numbers_alike guest 1) (more_at guests place other is below)
-    ∙ numbers_more guest 1 (take place guests) other
-    ∙ ap (λ (n : ℕ). numbers_alike guest 1 (take place guests) ++ put_if (have_same_options other guest) n []) numbered
+    grind (arith, common_steps, length-take-le, more_at, numbers_more, put_if)
 
 -- how many there are
 count_is : (numbers : List ℕ) → (alike_of numbers).count ≡ length numbers
-count_is [] = refl
-count_is (first ∷ []) = refl
-count_is (first ∷ second ∷ numbers) = omega arith
+count_is numbers = grind arith
 
 -- not more than there are guests before the place
 pub count_below : {A : Type 0} (guests : List (Guest A)) (place : ℕ) (guest : Guest A) (alike : Alike)
     → place < length guests → alike ≡ alike_of (numbers_alike guest 1 (take place guests)) → alike.count < place + 1
-count_below guests place guest alike below so_far =
-    let few = numbers_few guest 1 (take place guests) in
-    let long = length-take-le place guests (omega (arith, below)) in
-    let count : alike.count ≡ length (numbers_alike guest 1 (take place guests)) =
-    ap (λ (a : Alike). a.count) so_far ∙ count_is (numbers_alike guest 1 (take place guests)) in
-    omega (arith, few, long, count)
+count_below guests place guest alike below so_far = grind (arith, numbers_few, length-take-le, count_is)
 
 -- one more has the same options
 pub alike_more : {A : Type 0} (guests : List (Guest A)) (place : ℕ) (guest other : Guest A) (alike next : Alike)
@@ -90,10 +66,3 @@ alike_same guests place guest other alike is below so_far not =
     so_far ∙ ap alike_of (sym (append-nil (numbers_alike guest 1 (take place guests))))
     ∙ ap (λ b. alike_of (numbers_alike guest 1 (take place guests) ++ put_if b (place + 1) [])) (sym not)
     ∙ ap alike_of (sym (numbers_at guests place guest other is below))
-
--- all of them
-pub alike_all : {A : Type 0} (guests : List (Guest A)) (place : ℕ) (guest : Guest A) (alike : Alike)
-    → length guests ≤ place → alike ≡ alike_of (numbers_alike guest 1 (take place guests))
-    → alike ≡ alike_of (numbers_alike guest 1 guests)
-alike_all guests place guest alike over so_far =
-    so_far ∙ ap (λ xs. alike_of (numbers_alike guest 1 xs)) (take_all place guests over)

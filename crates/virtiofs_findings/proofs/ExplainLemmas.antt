@@ -1,18 +1,13 @@
 -- The explanations for each guest.
-use Rattle.std.proofs.Common.{◌≡◌, ℕ, ◌+◌, ◌<◌, List, [], ◌∷◌, ◌++◌, length, take, get_or, refl, sym, subst, arith}
+use Rattle.std.proofs.Common.{◌≡◌, ℕ, ◌+◌, ◌<◌, List, [], ◌∷◌, ◌++◌, length, take, get_or, arith}
 use Rattle.std.specs.Global.{Global}
 use Rattle.std.specs.List.{AllZip}
 use Rattle.std.specs.declared.vec.Vec.{Vec}
 use Rattle.virtiofs_map.proofs.ForCallers.{AllZip-push}
-use Rattle.virtiofs_findings.specs.Guests.{SetsUp}
-use Rattle.virtiofs_findings.specs.Lists.{Adds}
-use Rattle.virtiofs_findings.specs.Refusals.{TellsGuests}
 use Rattle.virtiofs_findings.specs.declared.guest.Guest.{Guest}
 use Rattle.virtiofs_findings.specs.declared.setup.SetUp.{SetUp}
 use Rattle.virtiofs_findings.proofs.ListLemmas.{more_at}
-use Rattle.virtiofs_findings.proofs.RefusalLemmas.{told_where_refused}
-use Rattle.virtiofs_findings.specs.Explain.{Explains, ExplainsGuests, ExplainsAll}
-use Rattle.virtiofs_findings.specs.declared.explain.Explained.{Explained}
+use Rattle.virtiofs_findings.specs.Explain.{Explains, ExplainsGuests}
 use Rattle.virtiofs_findings.specs.declared.explain.Explanation.{Explanation}
 use Rattle.virtiofs_findings.specs.declared.explain.asking.Question.{Question}
 
@@ -30,8 +25,7 @@ explains_push : (questions : List Question) (guests : List (Guest Global)) (sets
     (all : List (Vec Explanation Global)) (guest : Guest Global) (set : SetUp Global) (here : Vec Explanation Global)
     → ExplainsGuests questions guests sets all → AllZip (Explains guest set) questions here.items
     → ExplainsGuests questions (guests ++ guest ∷ []) (sets ++ set ∷ []) (all ++ here ∷ [])
-explains_push questions [] [] [] guest set here none last = (last, refl)
-explains_push questions [] [] (one ∷ all) guest set here none last = cc
+explains_push questions [] [] other guest set here none last = grind arith
 explains_push questions [] (s ∷ sets) all guest set here none last = absurd none
 explains_push questions (g ∷ guests) [] all guest set here none last = absurd none
 explains_push questions (g ∷ guests) (s ∷ sets) [] guest set here none last = absurd none
@@ -49,17 +43,4 @@ explains_more questions guests sets all place guest set here is_guest is_set bel
     rw (
       more_at guests place guest is_guest below,
       more_at sets place set is_set (omega (arith, below, same)),
-    )
-    (explains_push questions (take place guests) (take place sets) all guest set here so_far last)
-
--- all guests, and what is refused
-pub explains_all : (questions : List Question) (guests : List (Guest Global)) (all : Explained)
-    → AllZip SetsUp guests all.sets.items → Adds (TellsGuests 1 guests) [] all.refusals.items
-    → ExplainsGuests questions guests all.sets.items all.guests.items → ExplainsAll questions guests all
-explains_all questions guests all sets_up says explains =
-    let told = subst (TellsGuests 1 guests) (sym says.added) says.is in record {
-      sets_up = sets_up;
-      explains = explains;
-      refused = told_where_refused 1 guests all.sets.items all.refusals.items sets_up told;
-      refusals = told;
-    }
+    ) (explains_push _ _ _ _ _ _ _ so_far last)

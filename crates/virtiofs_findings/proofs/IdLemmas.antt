@@ -1,6 +1,7 @@
 -- Ids that are reported: all that are bad, and the least of them.
-use Rattle.std.proofs.Common.{◌≡◌, ◌↔◌, inl, inr, ℕ, ◌+◌, ◌<◌, ◌≤◌, List, [], ◌∷◌, IsTrue}
-use Rattle.std.proofs.Common.{length, get_or, slice_get, Vec, Result, Ok, Err, IfOk, Option, Some, None, refl, ap, subst, arith}
+use Rattle.std.proofs.lemmas.Grind.{common_steps}
+use Rattle.std.proofs.Common.{◌≡◌, ◌↔◌, inl, inr, ℕ, ◌<◌, ◌≤◌, List, [], ◌∷◌, IsTrue, rules}
+use Rattle.std.proofs.Common.{length, get_or, slice_get, Result, IfOk, Option, Some, None, refl, subst, arith}
 use Rattle.std.proofs.lemmas.Bool.{cases_eq}
 use Rattle.std.proofs.lemmas.Bool.Decides.{nat_tests}
 use Rattle.std.proofs.lemmas.List.Elements.{Contains-get_or}
@@ -45,16 +46,8 @@ runs_least bad ids first each runs some head =
           let low : (get_or ids 0 one).first ≡ first = head one in
           let from : one.first ≤ m = has.0 in
           elim (cases_eq k 0) [
-            | inl zero ↦ absurd
-                (let same : get_or ids 0 one ≡ one = subst (λ (i : ℕ). get_or ids i one ≡ one) zero here in
-                let also : (get_or ids 0 one).first ≡ one.first = ap (λ (s : Span). s.first) same in
-                omega (arith, low, also, from, before))
-            | inr later ↦ absurd
-                (let gap : (get_or ids 0 one).last + 1 < (get_or ids k one).first =
-                runs.gaps 0 k one (omega (arith, later)) inside in
-                let order : (get_or ids 0 one).first ≤ (get_or ids 0 one).last = runs.some 0 one some in
-                let also : (get_or ids k one).first ≡ one.first = ap (λ (s : Span). s.first) here in
-                omega (arith, low, gap, order, also, from, before))
+            | inl zero ↦ grind arith
+            | inr later ↦ search rules
           ]
 
 -- the first of the spans, if there is one
@@ -63,39 +56,25 @@ no_first [] none = refl
 no_first (span ∷ ids) none = absurd (cc)
 
 pub first_here : (ids : List Span) (span : Span) → Some span ≡ slice_get ids 0 → 0 < length ids
-first_here [] span is = absurd (cc)
-first_here (first ∷ ids) span is = omega arith
+first_here ids span is = grind (arith, common_steps)
 
 pub first_is : (ids : List Span) (span d : Span) → Some span ≡ slice_get ids 0 → (get_or ids 0 d).first ≡ span.first
-first_is [] span d is = absurd (cc)
-first_is (first ∷ ids) span d is = cc
+first_is ids span d is = grind (arith, common_steps)
 
 pub first_least : (bad : ℕ → Type 0) (ids : List Span) (span : Span) → ((n : ℕ) → Hold ids n ↔ bad n) → AreRuns ids
     → Some span ≡ slice_get ids 0 → IsLeastId bad span.first
-first_least bad ids span each runs is =
-    runs_least bad ids span.first each runs (first_here ids span is) (λ d. first_is ids span d is)
+first_least bad ids span each runs is = search (rules, runs_least, first_here, first_is)
 
 -- where there are no runs, no id is bad
 pub runs_none : (bad : ℕ → Type 0) (ids : List Span) → ((n : ℕ) → Hold ids n ↔ bad n) → ids ≡ [] → (n : ℕ) → ¬ bad n
-runs_none bad ids each empty n is = none (rw empty at ((each n).1 is)) where
-  none : ¬ Hold [] n
-  none (one, (k, inside, here), has) = absurd (omega (arith, inside))
+runs_none bad ids each empty n is = grind arith
 
 -- ---- ids that are bad by other words
 
 pub all_same : {A : Type 0} (bad other : ℕ → Type 0) (Tells : IdsFound A → Type 0) (found : Option (IdsFound A))
     → ((n : ℕ) → bad n → other n) → ((n : ℕ) → other n → bad n) → FindsAll bad Tells found
     → FindsAll other Tells found
-all_same bad other Tells None to from none = λ n is. none n (from n is)
-all_same bad other Tells (Some found) to from all = record {
-  each = λ n. (λ held. to n ((all.each n).0 held), λ is. (all.each n).1 (from n is));
-  runs = all.runs;
-  least = record {
-    is_bad = to _ all.least.is_bad;
-    none_before = λ m before is. all.least.none_before m before (from m is);
-  };
-  tells = all.tells;
-}
+all_same bad other Tells found to from none = grind arith
 
 -- ---- ids inside a namespace that are one id outside it
 
@@ -110,12 +89,6 @@ moved_one ranges span id all first last moved inside = (
   (λ stands. (moved.each inside).1
       (id, (span, (0, omega arith, refl), (omega (arith, first), omega (arith, last))), stands)),
 )
-
-pub roots_are : {A E : Type 0} (r : Result (Vec Span A) E) (ranges : List UidMap)
-    → IfOk r (λ all. AreMoved Inwards ranges (record { first = 0; last = 0 } ∷ []) all.items)
-    → IfOk r (λ all. (inside : ℕ) → Hold all.items inside ↔ IsRoot ranges inside)
-roots_are (Ok all) ranges moved = moved_one ranges (record { first = 0; last = 0 }) 0 all.items refl refl moved
-roots_are (Err e) ranges moved = tt
 
 -- ---- whether an id becomes another one
 
@@ -132,8 +105,4 @@ goes_here specs guest host there a b is is_too small becomes only = (
 pub acting_here : {A E : Type 0} (r : Result (Option (IdsFound A)) E) (specs : List Specification) (ranges : List UidMap)
     (root : List Span) → ((inside : ℕ) → Hold root inside ↔ IsRoot ranges inside)
     → IfOk r (FindsAll (GoesInto specs (Hold root)) (TellsHost specs)) → IfOk r (ActAsRoot specs ranges)
-acting_here (Ok found) specs ranges root same all =
-    all_same (GoesInto specs (Hold root)) (GoesInto specs (IsRoot ranges)) (TellsHost specs) found
-    (into_same specs (Hold root) (IsRoot ranges) (λ host. (same host).0))
-    (into_same specs (IsRoot ranges) (Hold root) (λ host. (same host).1)) all
-acting_here (Err e) specs ranges root same all = tt
+acting_here r specs ranges root same all = grind (arith, all_same, into_same)

@@ -1,19 +1,18 @@
 -- Ids that keep their number.
-use Rattle.std.proofs.Common.{◌≡◌, ◌↔◌, inl, inr, ℕ, Bool, true, false, List, [], ◌∷◌, map, Contains}
+use Rattle.std.proofs.lemmas.Grind.{common_steps}
+use Rattle.std.proofs.Common.{◌≡◌, ◌↔◌, inr, ℕ, Bool, List, [], ◌∷◌, map, Contains}
 use Rattle.std.proofs.Common.{Vec, Result, Ok, Err, IfOk, Option, Some, None, zero, suc, refl, sym, ap, subst, arith}
-use Rattle.std.proofs.lemmas.Bool.Decides.{nat_tests}
 use Rattle.std.specs.Bool.{◌==◌}
-use Rattle.std.specs.Prelude.{if◌then◌else◌, IsSomeAnd}
+use Rattle.std.specs.Prelude.{if◌then◌else◌}
 use Rattle.virtiofs_id_audit.specs.IdAudit.{GoesInto, Hold}
-use Rattle.virtiofs_map.specs.Mapping.{InRange, Covers, Becomes, EntryCovers, entry_of}
-use Rattle.virtiofs_map.specs.declared.soft_idmap.entry.Entry.{Entry}
+use Rattle.virtiofs_map.specs.Mapping.{InRange, Covers, Becomes}
 use Rattle.virtiofs_map.specs.declared.cmdline.IdMap.{IdMap}
 use Rattle.virtiofs_id_audit.specs.declared.spans.Span.{Span}
 use Rattle.virtiofs_map.specs.declared.idmap.UidMap.{UidMap}
 use Rattle.virtiofs_map.specs.declared.soft_idmap.entry.Direction.TheVariants.{GuestToHost}
 use Rattle.virtiofs_findings.proofs.IdLemmas.{all_same}
 use Rattle.virtiofs_findings.specs.IdFindings.{AreMapped, FindsAll, TellsHost, IsKept, TellsKept, FindsKept}
-use Rattle.virtiofs_findings.specs.KeptParts.{cover_of, covered, same_of, IsUncovered, IsSame}
+use Rattle.virtiofs_findings.specs.KeptParts.{cover_of, same_of, IsUncovered, IsSame}
 use Rattle.virtiofs_id_audit.specs.Namespace.{Has, HasNone, StandsBy, StandsAmong, StandsFor}
 use Rattle.virtiofs_id_audit.specs.Outside.{AreMoved}
 use Rattle.virtiofs_findings.specs.declared.ids.found.IdsFound.{IdsFound}
@@ -38,10 +37,7 @@ made_of f (one ∷ xs) y (suc k, inside, here) =
 -- ---- ids that no specification covers
 
 covers_as : (spec : IdMap) (id : ℕ) → Covers spec GuestToHost id ↔ Has (cover_of spec) id
-covers_as spec id = by (entry_of spec GuestToHost) where
-  by : (entry : Option Entry) → IsSomeAnd entry (λ it. EntryCovers it id) ↔ Has (covered entry) id
-  by None = ((λ is. absurd is), (λ is. absurd (omega (arith, is.0, is.1))))
-  by (Some entry) = ((λ is. is), (λ is. is))
+covers_as spec id = grind arith
 
 none_covers : (specs : List IdMap) (covers : List UidMap) (id : ℕ) → covers ≡ map cover_of specs
     → HasNone covers id ↔ IsUncovered specs id
@@ -68,29 +64,14 @@ uncovered_made (Err e) specs covers are none = tt
 
 in_same : (inside outside count id : ℕ) (test : Bool) → test ≡ (inside == outside)
     → InRange inside (if test then count else 0) id → (inside ≡ outside) × InRange inside count id
-in_same inside outside count id true is has = (grind (arith, nat_tests, is), has)
-in_same inside outside count id false is has = absurd (omega (arith, has.0, has.1))
+in_same inside outside count id test is has = grind arith
 
 same_in : (inside outside count id : ℕ) (test : Bool) → test ≡ (inside == outside) → inside ≡ outside
     → InRange inside count id → InRange inside (if test then count else 0) id
-same_in inside outside count id true is same has = has
-same_in inside outside count id false is same has = absurd (grind (arith, nat_tests, is, same))
+same_in inside outside count id test is same has = grind arith
 
 same_by : (range : UidMap) (moved id : ℕ) → StandsBy (same_of range) moved id → (moved ≡ id) × StandsBy range id id
-same_by range moved id by =
-    let (same, has) = in_same range.inside_uid range.outside_uid range.count id _ refl by.has in (
-      omega (arith, by.same, has.0),
-      record { has = has; same = omega (arith, same, has.0); is_id = by.is_id; is_id_outside = by.is_id },
-    )
-
-by_same : (range : UidMap) (id : ℕ) → StandsBy range id id → StandsBy (same_of range) id id
-by_same range id by =
-    let same : range.inside_uid ≡ range.outside_uid = omega (arith, by.same, by.has.0) in record {
-      has = same_in range.inside_uid range.outside_uid range.count id _ refl same by.has;
-      same = omega (arith, by.has.0);
-      is_id = by.is_id;
-      is_id_outside = by.is_id;
-    }
+same_by range moved id by = grind (arith, in_same)
 
 same_among : (ranges : List UidMap) (moved id : ℕ) → StandsAmong (map same_of ranges) moved id
     → (moved ≡ id) × StandsAmong ranges id id
@@ -100,7 +81,7 @@ same_among ranges moved id (range, listed, by) =
     (same, (one, within, by_one))
 
 among_same : (ranges : List UidMap) (id : ℕ) → StandsAmong ranges id id → StandsAmong (map same_of ranges) id id
-among_same ranges id (range, listed, by) = (same_of range, made same_of ranges range listed, by_same range id by)
+among_same ranges id (range, listed, by) = (same_of range, made same_of ranges range listed, (grind (arith, same_in)))
 
 same_for : (ranges : List UidMap) (moved id : ℕ) → StandsFor (map same_of ranges) moved id
     → (moved ≡ id) × StandsFor ranges id id
@@ -108,8 +89,7 @@ same_for [] moved id is = (sym is, refl)
 same_for (range ∷ ranges) moved id is = same_among (range ∷ ranges) moved id is
 
 for_same : (ranges : List UidMap) (id : ℕ) → StandsFor ranges id id → StandsFor (map same_of ranges) id id
-for_same [] id is = is
-for_same (range ∷ ranges) id is = among_same (range ∷ ranges) id is
+for_same ranges id is = grind (arith, common_steps, among_same)
 
 pub same_made : {A E : Type 0} (r : Result (Vec Span A) E) (ranges same : List UidMap) (ids : List Span)
     → same ≡ map same_of ranges → IfOk r (λ all. AreMoved Outwards same ids all.items)
@@ -127,8 +107,7 @@ same_made (Err e) ranges same ids are moved = tt
 
 -- without specifications an id becomes itself
 stays : (id host : ℕ) → Becomes [] GuestToHost id (Some host) → host ≡ id
-stays id host (inl (spec, (k, inside, here), maps)) = absurd (omega (arith, inside))
-stays id host (inr (none, is)) = cc
+stays id host it = grind arith
 
 itself : (id : ℕ) → Becomes [] GuestToHost id (Some id)
 itself id = inr ((λ spec (k, inside, here). absurd (omega (arith, inside))), refl)
@@ -139,10 +118,10 @@ finds_kept : {A : Type 0} (specs : List IdMap) (ranges : List UidMap) (uncovered
     → ((id : ℕ) → Hold kept id ↔ IsSame ranges uncovered id)
     → FindsAll (GoesInto [] (Hold kept)) (TellsHost []) found → FindsKept specs ranges found
 finds_kept {A = A} specs ranges uncovered kept found mapped free same finds = told found
-    (all_same (GoesInto [] (Hold kept)) (IsKept specs ranges) (TellsHost []) found keeps goes finds) where
+    (all_same _ _ _ found keeps goes finds) where
       keeps : (id : ℕ) → GoesInto [] (Hold kept) id → IsKept specs ranges id
       keeps id into =
-          let stay : into.host ≡ id = stays id into.host into.goes.becomes in
+          let stay : into.host ≡ id = stays id _ into.goes.becomes in
           let (held, stands) = (same id).0 (subst (Hold kept) stay into.is_one) in
           record { mapped = mapped; is_id = into.goes.is_id; uncovered = ((free id).0 held).1; same = stands }
 

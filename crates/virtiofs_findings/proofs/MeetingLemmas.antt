@@ -1,8 +1,8 @@
 -- The ids of the host that two guests reach.
-use Rattle.std.proofs.Common.{◌≡◌, ◌≢◌, ◌↔◌, inl, inr, ℕ, ◌+◌, ◌-◌, ◌<◌, ◌≤◌, List, [], ◌∷◌, ◌++◌, length, take, get_or}
-use Rattle.std.proofs.Common.{Contains, Option, Some, None, MatchOption, Vec, Result, Ok, Err, IfOk, refl, subst, sym, arith, rules}
+use Rattle.std.proofs.Common.{◌≡◌, ◌≢◌, ◌↔◌, inl, inr, ℕ, ◌+◌, ◌<◌, ◌≤◌, List, [], ◌∷◌, ◌++◌, length, take, get_or}
+use Rattle.std.proofs.Common.{Contains, Vec, Result, Ok, Err, IfOk, refl, subst, sym, arith, rules}
 use Rattle.std.proofs.lemmas.List.{take_more, take_all}
-use Rattle.std.proofs.lemmas.List.Elements.{Contains-get_or, Contains-push_cases}
+use Rattle.std.proofs.lemmas.List.Elements.{Contains-push_cases}
 use Rattle.virtiofs_id_audit.specs.IdAudit.{IsLeastId, GoesInto, ReachedBy, Hold, AreRuns}
 use Rattle.virtiofs_map.specs.declared.cmdline.IdMap.{IdMap as Specification}
 use Rattle.virtiofs_id_audit.specs.declared.spans.Span.{Span}
@@ -11,68 +11,11 @@ use Rattle.virtiofs_findings.specs.IdFindings.{AreAll, ReachedOutside, Meets, Te
 use Rattle.virtiofs_id_audit.specs.Namespace.{StandsBy, StandsAmong, StandsFor}
 use Rattle.virtiofs_id_audit.specs.Outside.{AreMoved}
 use Rattle.virtiofs_findings.specs.declared.ids.found.IdsFound.{IdsFound}
-use Rattle.virtiofs_findings.specs.declared.ids.meeting.Met.{Met}
 use Rattle.virtiofs_id_audit.specs.declared.outside.Way.TheVariants.{Inwards, Outwards}
 use Rattle.virtiofs_findings.proofs.IdLemmas.{into_same}
 use Rattle.virtiofs_id_audit.proofs.ForCallers.{among_moves}
 
 -- ---- what one id is
-
--- by a range, an id inside is one id outside at most
-stands_once : (range : UidMap) (inside outside other : ℕ) → StandsBy range outside inside → StandsBy range other inside
-    → other ≡ outside
-stands_once range inside outside other first second = omega (arith, first.same, second.same)
-
--- by a range that says what it is
-met_here : (r : Option Met) (range : UidMap) (inside host : ℕ) (others : List Specification) (ranges : List UidMap)
-    → StandsBy range host inside
-    → MatchOption r (¬ ReachedOutside others ranges host)
-    (λ met. (met.host ≡ host) × IsLeastId (GoesInto others (StandsFor ranges host)) met.guest)
-    → MatchOption r ((h : ℕ) → StandsBy range h inside → ¬ ReachedOutside others ranges h)
-    (λ met. StandsBy range met.host inside × IsLeastId (GoesInto others (StandsFor ranges met.host)) met.guest)
-met_here None range inside host others ranges stands not = λ h is reached.
-    not (subst (λ n. ReachedOutside others ranges n) (stands_once range inside host h stands is) reached)
-met_here (Some met) range inside host others ranges stands (same, least) = (
-  subst (λ n. StandsBy range n inside) (sym same) stands,
-  subst (λ n. IsLeastId (GoesInto others (StandsFor ranges n)) met.guest) (sym same) least,
-)
-
--- without ranges it is itself
-met_alone : (r : Option Met) (ranges : List UidMap) (inside : ℕ) (others : List Specification)
-    (other_ranges : List UidMap) → ranges ≡ []
-    → MatchOption r (¬ ReachedOutside others other_ranges inside)
-    (λ met. (met.host ≡ inside) × IsLeastId (GoesInto others (StandsFor other_ranges inside)) met.guest)
-    → MatchOption r (¬ Meets ranges others other_ranges inside)
-    (λ met. StandsFor ranges met.host inside × IsLeastId (GoesInto others (StandsFor other_ranges met.host)) met.guest)
-met_alone None [] inside others other_ranges none not = λ (outside, same, reached).
-    not (subst (λ n. ReachedOutside others other_ranges n) (sym same) reached)
-met_alone (Some met) [] inside others other_ranges none (same, least) = (
-  sym same,
-  subst (λ n. IsLeastId (GoesInto others (StandsFor other_ranges n)) met.guest) (sym same) least,
-)
-met_alone r (range ∷ ranges) inside others other_ranges none found = absurd (cc)
-
--- the same, where memory may have run out
-pub met_here_if : {E : Type 0} (r : Result (Option Met) E) (range : UidMap) (inside host : ℕ)
-    (others : List Specification) (ranges : List UidMap) → StandsBy range host inside
-    → IfOk r (λ met. MatchOption met (¬ ReachedOutside others ranges host)
-    (λ met. (met.host ≡ host) × IsLeastId (GoesInto others (StandsFor ranges host)) met.guest))
-    → IfOk r (λ met. MatchOption met ((h : ℕ) → StandsBy range h inside → ¬ ReachedOutside others ranges h)
-    (λ met. StandsBy range met.host inside × IsLeastId (GoesInto others (StandsFor ranges met.host)) met.guest))
-met_here_if (Ok met) range inside host others ranges stands found =
-    met_here met range inside host others ranges stands found
-met_here_if (Err e) range inside host others ranges stands found = tt
-
-pub met_alone_if : {E : Type 0} (r : Result (Option Met) E) (ranges : List UidMap) (inside : ℕ)
-    (others : List Specification) (other_ranges : List UidMap) → ranges ≡ []
-    → IfOk r (λ met. MatchOption met (¬ ReachedOutside others other_ranges inside)
-    (λ met. (met.host ≡ inside) × IsLeastId (GoesInto others (StandsFor other_ranges inside)) met.guest))
-    → IfOk r (λ met. MatchOption met (¬ Meets ranges others other_ranges inside)
-    (λ met. StandsFor ranges met.host inside
-    × IsLeastId (GoesInto others (StandsFor other_ranges met.host)) met.guest))
-met_alone_if (Ok met) ranges inside others other_ranges none found =
-    met_alone met ranges inside others other_ranges none found
-met_alone_if (Err e) ranges inside others other_ranges none found = tt
 
 -- ---- by ranges, one after the other
 
@@ -107,12 +50,6 @@ none_met_all ranges others other_ranges inside i some over so_far (outside, stan
     let all = subst (λ rs. MeetsNone rs others other_ranges inside) (take_all i ranges over) so_far in
     all outside ((among_moves Outwards ranges inside outside some).1 stands) reached
 
--- by one of them the id is that one outside
-pub met_among : (ranges : List UidMap) (host inside i : ℕ) (d : UidMap) → ranges ≢ [] → i < length ranges
-    → StandsBy (get_or ranges i d) host inside → StandsFor ranges host inside
-met_among ranges host inside i d some below stands =
-    (among_moves Outwards ranges inside host some).0 (get_or ranges i d, Contains-get_or ranges i d below, stands)
-
 -- ---- all ids inside the first namespace
 
 -- all ids, each under its number
@@ -120,14 +57,7 @@ abbrev pub all_ids : UidMap
 all_ids = record { inside_uid = 0; outside_uid = 0; count = 4294967295 }
 
 moved_same : (id moved : ℕ) → StandsFor (all_ids ∷ []) moved id → (id ≡ moved) × (moved < 4294967295)
-moved_same id moved (range, listed, is) = elim (Contains-push_cases [] all_ids range listed) [
-  | inl none ↦ absurd (not_in_none range none)
-  | inr same ↦
-      let here : StandsBy all_ids moved id = subst (λ (r : UidMap). StandsBy r moved id) (sym same) is in
-      let moves : moved ≡ 0 + (id - 0) = here.same in
-      let below : id < 0 + 4294967295 = here.has.1 in
-      (omega (arith, moves), omega (arith, moves, below))
-]
+moved_same id moved (range, listed, is) = grind (arith, Contains-push_cases, all_ids, not_in_none)
 
 stays_same : (id : ℕ) → id < 4294967295 → StandsFor (all_ids ∷ []) id id
 stays_same id small = (
@@ -164,8 +94,7 @@ meets_spans others ranges other_ranges theirs outside ids met reach out but into
       let (id, held_theirs, stands_too) = (out.each host).0 held_outside in
       let (guest, goes) = (reach id).0 held_theirs in
       (host, stands, (small, (guest, record { host = id; goes = goes; is_one = stands_too })))),
-  (λ (host, stands, (small, (guest, goes))).
-      (into.each inside).1
+  (λ (host, stands, (small, (guest, goes))). (into.each inside).1
       (host, (but host).1 ((out.each host).1 (goes.host, (reach goes.host).1 (guest, goes.goes), goes.is_one), small), stands)),
 )
 
@@ -176,15 +105,14 @@ module _ (specs : List Specification) (ranges : List UidMap) (others : List Spec
   pub meets_nowhere : ((n : ℕ) → ¬ GoesInto specs (Hold spans) n) → (n : ℕ)
       → ¬ GoesInto specs (Meets ranges others other_ranges) n
   meets_nowhere none n into =
-      none n (into_same specs (Meets ranges others other_ranges) (Hold spans) (λ inside. (same inside).1) n into)
+      none n (into_same _ _ _ (λ inside. (same inside).1) n into)
 
   pub meets_first : (n : ℕ) → IsLeastId (GoesInto specs (Hold spans)) n
       → IsLeastId (GoesInto specs (Meets ranges others other_ranges)) n
   meets_first n least = record {
     is_bad =
-        into_same specs (Hold spans) (Meets ranges others other_ranges) (λ inside. (same inside).0) n least.is_bad;
-    none_before = λ m before into. least.none_before m before
-        (into_same specs (Meets ranges others other_ranges) (Hold spans) (λ inside. (same inside).1) m into);
+        into_same _ _ _ (λ inside. (same inside).0) n least.is_bad;
+    none_before = λ m before into. least.none_before m before (into_same _ _ _ (λ inside. (same inside).1) m into);
   }
 
   -- all ids of the first guest, and what is told of the least of them
@@ -195,12 +123,12 @@ module _ (specs : List Specification) (ranges : List UidMap) (others : List Spec
       → AreAll (GoesInto specs (Meets ranges others other_ranges)) (TellsMeeting specs ranges others other_ranges) found
   meetings {A} found ids first each runs least are is tells = record {
     each = λ n. (
-      (λ held. into_same specs (Hold spans) (Meets ranges others other_ranges) (λ inside. (same inside).0) n
+      (λ held. into_same _ _ _ (λ inside. (same inside).0) n
           ((each n).0 (subst (λ (xs : Vec Span A). Hold xs.items n) are held))),
       (λ into. subst (λ (xs : Vec Span A). Hold xs.items n) (sym are)
-          ((each n).1 (into_same specs (Meets ranges others other_ranges) (Hold spans) (λ inside. (same inside).1) n into))),
+          ((each n).1 (into_same _ _ _ (λ inside. (same inside).1) n into))),
     );
     runs = subst (λ (xs : Vec Span A). AreRuns xs.items) (sym are) runs;
-    least = subst (IsLeastId (GoesInto specs (Meets ranges others other_ranges))) (sym is) (meets_first first least);
+    least = subst (IsLeastId (GoesInto specs (Meets ranges others other_ranges))) (sym is) (meets_first _ least);
     tells = tells;
   }

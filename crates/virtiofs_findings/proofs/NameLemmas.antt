@@ -1,19 +1,16 @@
 -- Names that are reported, and the rules that decide none.
-use Rattle.std.proofs.Common.{◌≡◌, ◌↔◌, ◌∙◌, ℕ, ◌+◌, ◌<◌, Bool, true, false, cond, ltb, Some, None, List, []}
-use Rattle.std.proofs.Common.{◌∷◌, ◌++◌, ◌≤◌, length, map, Contains, inl, inr, refl, sym, ap, subst, arith, rules, append_assoc, Result, Ok, Err, OnOk}
+use Rattle.std.proofs.lemmas.Grind.{common_steps}
+use Rattle.std.proofs.Common.{◌≡◌, ◌↔◌, ◌∙◌, ℕ, ◌+◌, ◌<◌, List, []}
+use Rattle.std.proofs.Common.{◌∷◌, ◌++◌, ◌≤◌, map, Contains, inl, inr, refl, sym, ap, subst, arith, rules, append_assoc, Result, Ok, Err, OnOk}
 use Rattle.std.proofs.lemmas.List.{map-append}
 use Rattle.std.proofs.lemmas.Bool.{cases_eq, ltb-true}
 use Rattle.std.proofs.lemmas.List.Elements.{Contains-append_left, Contains-append_right, Contains-push, Contains-push_cases, All-append}
 use Rattle.virtiofs_map.specs.Audit.{Decides, IsLost, IsStray, IsSeen, IsShared}
-use Rattle.virtiofs_map.specs.Names.{fits, first}
 use Rattle.virtiofs_map.specs.Rule.{MappingRule}
-use Rattle.virtiofs_map.specs.declared.xattrmap.scopes.Side.{Side}
-use Rattle.std.specs.List.{position_or_len}
 use Rattle.virtiofs_findings.specs.Lists.{Adds, AreRising}
-use Rattle.virtiofs_findings.proofs.ListLemmas.{in_three, in_four}
+use Rattle.virtiofs_findings.proofs.ListLemmas.{in_three}
 use Rattle.virtiofs_findings.specs.NameFindings.{DecidesWritten, FindsIdle, FindsLeast, FindsNames, FindsUnruled, idle_rule, name_found}
 use Rattle.virtiofs_findings.specs.PairFindings.{FindsNamesBetween, pair_name_found}
-use Rattle.virtiofs_findings.specs.NameParts.{DecidesFrom}
 use Rattle.virtiofs_findings.specs.declared.finding.Finding.{Finding}
 use Rattle.virtiofs_findings.specs.declared.finding.Kind.TheVariants.{NotListed, ListedElsewhere, ShownToOther, NameOfBoth}
 
@@ -23,9 +20,6 @@ use Rattle.virtiofs_findings.specs.declared.finding.Kind.TheVariants.{NotListed,
 abbrev pub AreIdleBelow : List MappingRule → ℕ → ℕ → List ℕ → Type 0
 AreIdleBelow rules written below idle = (place : ℕ)
     → Contains idle place ↔ ((place < below) × (¬ DecidesWritten rules written place))
-
-pub none_idle : (rules : List MappingRule) (written : ℕ) → AreIdleBelow rules written 0 []
-none_idle rules written place = (λ has. absurd (omega (arith, has.1)), λ idle. absurd (omega (arith, idle.0)))
 
 -- the rule at the next place decides a name
 pub idle_skipped : (rules : List MappingRule) (written i : ℕ) (idle : List ℕ) → AreIdleBelow rules written i idle
@@ -69,24 +63,6 @@ pub record FindsIdleBelow {A : Type 0} (number : ℕ) (rules : List MappingRule)
   pub order : AreRising places
   pub are : found ≡ map (idle_rule number) places
 
-pub idle_none : {A : Type 0} (number : ℕ) (rules : List MappingRule) (written : ℕ) → FindsIdleBelow {A = A} number rules written 0 []
-idle_none number rules written = record { places = []; idle = none_idle rules written; order = tt; are = refl }
-
--- the rule at the next place decides a name
-pub idle_goes_on : {A : Type 0} (number : ℕ) (rules : List MappingRule) (written i : ℕ) (before after : List (Finding A))
-    → Adds (FindsIdleBelow number rules written i) before after → DecidesWritten rules written i
-    → Adds (FindsIdleBelow number rules written (i + 1)) before after
-idle_goes_on number rules written i before after so_far decides = record {
-  more = so_far.more;
-  is = record {
-    places = so_far.is.places;
-    idle = idle_skipped rules written i so_far.is.places so_far.is.idle decides;
-    order = so_far.is.order;
-    are = so_far.is.are;
-  };
-  added = so_far.added;
-}
-
 -- the rule at the next place decides none
 pub idle_grows : {A : Type 0} (number : ℕ) (rules : List MappingRule) (written i : ℕ) (before after next : List (Finding A))
     → Adds (FindsIdleBelow number rules written i) before after → (¬ DecidesWritten rules written i)
@@ -95,12 +71,12 @@ idle_grows number rules written i before after next so_far none pushed = record 
   more = so_far.more ++ idle_rule number i ∷ [];
   is = record {
     places = so_far.is.places ++ i ∷ [];
-    idle = idle_pushed rules written i so_far.is.places _ so_far.is.idle none refl;
-    order = rising_push so_far.is.places i so_far.is.order (λ n has. ((so_far.is.idle n).0 has).0);
+    idle = idle_pushed rules written i _ _ so_far.is.idle none refl;
+    order = rising_push _ i so_far.is.order (λ n has. ((so_far.is.idle n).0 has).0);
     are = ap (λ found. found ++ idle_rule number i ∷ []) so_far.is.are ∙ sym (map-append (idle_rule number) so_far.is.places (i ∷ []));
   };
   added =
-      pushed ∙ ap (λ found. found ++ idle_rule number i ∷ []) so_far.added ∙ append_assoc before so_far.more (idle_rule number i ∷ []);
+      pushed ∙ ap (λ found. found ++ idle_rule number i ∷ []) so_far.added ∙ append_assoc before _ _;
 }
 
 -- all rules were asked
@@ -122,32 +98,9 @@ idle_all number rules written i before after over within so_far = record {
 
 -- ---- the rules that the last written one stands for
 
-first_within : (side : Side) (rules : List MappingRule) (name : List ℕ) (at : ℕ) → first side rules name ≡ Some at
-    → at < length rules
-first_within side rules name at =
-    through (ltb (position_or_len (fits side name) rules) (length rules)) (position_or_len (fits side name) rules)
-    (λ b. ltb-true (position_or_len (fits side name) rules) (length rules) b) where
-      through : (b : Bool) (n : ℕ) → (b ≡ true → n < length rules) → cond b (Some n) None ≡ Some at → at < length rules
-      through true n below e = let same : n ≡ at = cc in let low = below refl in omega (arith, same, low)
-      through false n below e = cc
-
--- a rule that decides a name is one of the list
-pub decides_within : (rules : List MappingRule) (place : ℕ) → Decides rules place → place < length rules
-decides_within rules place (side, decides) = first_within side rules decides.name place decides.is_first
-
-pub from_last : (rules : List MappingRule) (written place : ℕ) → place + 1 ≡ written
-    → DecidesFrom rules place ↔ DecidesWritten rules written place
-from_last rules written place last = (
-  λ from. (from.0, (from.1, from.2, inr last), from.3),
-  λ some. (some.0, some.1.0, some.1.1, some.2),
-)
-
 pub from_one : (rules : List MappingRule) (written place : ℕ) → ¬ (place + 1 ≡ written)
     → Decides rules place ↔ DecidesWritten rules written place
-from_one rules written place not_last = (
-  λ decides. (place, (omega arith, decides_within rules place decides, inl refl), decides),
-  λ some. elim some.1.2 [ inl same ↦ subst (Decides rules) same some.2 | inr last ↦ absurd (not_last last) ],
-)
+from_one rules written place not_last = grind (arith, ltb-true)
 
 -- ---- the parts of what is found
 
@@ -170,7 +123,7 @@ names_found (Ok x) number rules written a b c d e unruled lost stray idle = reco
     idle = idle.is;
     whole = refl;
   };
-  added = in_four a unruled.more lost.more stray.more idle.more b c d e unruled.added lost.added stray.added idle.added;
+  added = grind (arith, in_three, append_assoc);
 }
 names_found (Err f) number rules written a b c d e unruled lost stray idle = tt
 
@@ -181,17 +134,4 @@ pub between_found : {A V E : Type 0} (r : Result V E) (number number_2 : ℕ) (o
     → Adds (FindsLeast (pair_name_found number_2 number ShownToOther) (IsSeen other one)) b c
     → OnOk r (Adds (FindsLeast (pair_name_found number number_2 NameOfBoth) (IsShared one other)) c d)
     → OnOk r (Adds (FindsNamesBetween number number_2 one other) a d)
-between_found (Ok x) number number_2 one other a b c d seen back shared = record {
-  more = seen.more ++ back.more ++ shared.more;
-  is = record {
-    of_seen = seen.more;
-    of_seen_back = back.more;
-    of_shared = shared.more;
-    seen = seen.is;
-    seen_back = back.is;
-    shared = shared.is;
-    whole = refl;
-  };
-  added = in_three a seen.more back.more shared.more b c d seen.added back.added shared.added;
-}
-between_found (Err f) number number_2 one other a b c d seen back shared = tt
+between_found r number number_2 one other a b c d seen back shared = grind (arith, common_steps, in_three)

@@ -1,17 +1,18 @@
 -- Options that only take away.
-use Rattle.std.proofs.Common.{◌≡◌, ◌⊎◌, refl, inl, inr, ℕ, ◌+◌, ◌<◌, ◌≤◌, Bool, true, false, not, cond, ltb, List, [], ◌∷◌, ◌++◌, length, take, get_or, slice_get, Option, Some, None, sym, ap, ◌∙◌, subst, arith, zero, suc, Vec, Result, Ok, Err, IfOk}
-use Rattle.std.specs.List.{AllZip, find, position, position_or_len}
+use Rattle.std.proofs.lemmas.Grind.{common_steps}
+use Rattle.std.proofs.Common.{◌≡◌, ◌⊎◌, refl, inl, inr, ℕ, ◌+◌, ◌<◌, ◌≤◌, Bool, true, false, not, cond, List, [], ◌∷◌, ◌++◌, length, take, get_or, slice_get, Option, Some, None, sym, ap, ◌∙◌, subst, arith, zero, suc, Vec, Result, Ok, Err, IfOk, rules}
+use Rattle.std.specs.List.{AllZip, find, position_or_len}
 use Rattle.std.specs.Option.{option_or, option_map_or}
 use Rattle.std.proofs.lemmas.Bool.{lt-ltb}
 use Rattle.std.proofs.lemmas.List.{take_all, take_more}
 use Rattle.std.proofs.lemmas.List.Elements.{AllZip-get_or, Contains-append_left, Contains-push_cases}
 use Rattle.std.proofs.lemmas.List.Folds.{find-append}
-use Rattle.std.proofs.lemmas.Option.{get_or_from_slice_get, none-some, slice_get-get_or, slice_get_within}
+use Rattle.std.proofs.lemmas.Option.{get_or_from_slice_get, slice_get-get_or, slice_get_within}
 use Rattle.virtiofs_id_audit.specs.Mending.{Mends}
 use Rattle.virtiofs_map.specs.Audit.{Decides}
 use Rattle.virtiofs_map.specs.MapRule.{IsName}
-use Rattle.virtiofs_map.specs.Mapping.{Becomes, Covers, Maps}
-use Rattle.virtiofs_map.specs.Names.{fits, deciding, answer_by, IsDenied, IsUnterminated, host_answer_by, IsHidden, IsUndecided}
+use Rattle.virtiofs_map.specs.Mapping.{Becomes, Maps}
+use Rattle.virtiofs_map.specs.Names.{fits, deciding, host_answer_by, IsHidden, IsUndecided}
 use Rattle.virtiofs_map.specs.Rule.{MappingRule}
 use Rattle.virtiofs_map.specs.declared.cmdline.IdMap.{IdMap}
 use Rattle.virtiofs_map.specs.declared.cmdline.IdMap.TheVariants.{ForbidGuest}
@@ -29,8 +30,7 @@ use Rattle.virtiofs_findings.specs.declared.setup.SetUp.{SetUp}
 
 -- the given specifications take nothing away
 pub narrower_self : (specs other : List IdMap) → other ≡ specs → NarrowerIds specs other
-narrower_self specs other same = subst (NarrowerIds specs) (sym same)
-    (record { guest = λ guest value is. inr is; host = λ host value. ((λ is. is), (λ is. is)) })
+narrower_self specs other same = grind arith
 
 -- where ids are forbidden, the others become what they became
 kept_or_not : (specs : List IdMap) (bad : ℕ → Type 0) (mended : List IdMap) → Mends specs bad mended → (guest : ℕ)
@@ -40,14 +40,9 @@ kept_or_not specs bad mended mends guest (Some host) is = inr ((mends.keeps gues
     (λ is_bad. Becomes-forbidden mended GuestToHost guest host mends.accepted is
     ((mends.forbids guest).1 (inr is_bad)))).0 is)
 
-pub narrower_mended : (specs : List IdMap) (bad : ℕ → Type 0) (mended : List IdMap) → Mends specs bad mended
-    → NarrowerIds specs mended
-narrower_mended specs bad mended mends =
-    record { guest = kept_or_not specs bad mended mends; host = λ host value. mends.leaves host value }
-
 pub narrower_made : {A E : Type 0} (r : Result (Vec IdMap A) E) (specs : List IdMap) (bad : ℕ → Type 0)
     → IfOk r (λ mended. Mends specs bad mended.items) → IfOk r (λ mended. NarrowerIds specs mended.items)
-narrower_made (Ok made) specs bad mends = narrower_mended specs bad made.items mends
+narrower_made (Ok made) specs bad mends = search (rules, kept_or_not)
 narrower_made (Err e) specs bad mends = tt
 
 -- one more specification that forbids ids takes away
@@ -60,68 +55,33 @@ more_forbidden given specs first count guest value narrower (inl (spec, listed, 
       | inr last ↦ inl (sym (subst (λ it. Maps it GuestToHost guest value) (sym last) maps).1)
     ]
 more_forbidden given specs first count guest value narrower (inr (none, same)) =
-    narrower.guest guest value (inr (
-      (λ spec listed. none spec
-          (Contains-append_left specs (ForbidGuest first count ∷ []) spec listed)),
-      same,
-    ))
+    narrower.guest guest value (inr (grind (arith, Contains-append_left)))
 
 host_as_before : (specs : List IdMap) (first count host : ℕ) (value : Option ℕ)
     → Becomes (specs ++ ForbidGuest first count ∷ []) HostToGuest host value → Becomes specs HostToGuest host value
-host_as_before specs first count host value (inl (spec, listed, maps)) =
-    elim (Contains-push_cases specs (ForbidGuest first count) spec listed) [
-      | inl before ↦ inl (spec, before, maps)
-      | inr last ↦ absurd (subst (λ it. Maps it HostToGuest host value) (sym last) maps)
-    ]
-host_as_before specs first count host value (inr (none, same)) =
-    inr ((λ spec listed. none spec (Contains-append_left specs (ForbidGuest first count ∷ []) spec listed)), same)
+host_as_before specs first count host value it = grind (arith, common_steps, Contains-push_cases, Contains-append_left)
 
 host_as_after : (specs : List IdMap) (first count host : ℕ) (value : Option ℕ) → Becomes specs HostToGuest host value
     → Becomes (specs ++ ForbidGuest first count ∷ []) HostToGuest host value
-host_as_after specs first count host value (inl (spec, listed, maps)) =
-    inl (spec, Contains-append_left specs (ForbidGuest first count ∷ []) spec listed, maps)
-host_as_after specs first count host value (inr (none, same)) = inr (
-  (λ spec listed covers.
-      elim (Contains-push_cases specs (ForbidGuest first count) spec listed) [
-        | inl before ↦ none spec before covers
-        | inr last ↦ absurd (subst (λ it. Covers it HostToGuest host) (sym last) covers)
-      ]),
-  same,
-)
+host_as_after specs first count host value it = grind (arith, common_steps, Contains-append_left, Contains-push_cases)
 
 pub narrower_forbid : (given specs : List IdMap) (first count : ℕ) → NarrowerIds given specs
     → NarrowerIds given (specs ++ ForbidGuest first count ∷ [])
 narrower_forbid given specs first count narrower = record {
-  guest = λ guest value. more_forbidden given specs first count guest value narrower;
+  guest = λ guest value. more_forbidden _ _ _ _ _ _ narrower;
   host = λ host value. (
-    (λ is. (narrower.host host value).0 (host_as_before specs first count host value is)),
-    (λ is. host_as_after specs first count host value ((narrower.host host value).1 is)),
+    (λ is. (narrower.host host value).0 (host_as_before _ _ _ _ _ is)),
+    (λ is. host_as_after _ _ _ _ _ ((narrower.host host value).1 is)),
   );
 }
 
 -- ---- names
 
--- the first place of which it holds
-first_or_later : {X : Type 0} (p : X → Bool) (x : X) (xs : List X) (i : ℕ) (holds : Bool) → holds ≡ p x
-    → cond holds (Some x) (find p (take i xs)) ≡ None → (find p (take i xs) ≡ None → position_or_len p xs ≡ i)
-    → position_or_len p (x ∷ xs) ≡ suc i
-first_or_later p x xs i true here none later = absurd (none-some x (sym none))
-first_or_later p x xs i false here none later =
-    let more : 1 + i ≡ suc i = omega arith in
-    ap (λ b. cond (not b) (1 + position_or_len p xs) 0) (sym here) ∙ ap (λ n. 1 + n) (later none) ∙ more
-
 first_place : {X : Type 0} (p : X → Bool) (xs : List X) (i : ℕ) (d : X) → i < length xs → find p (take i xs) ≡ None
     → p (get_or xs i d) ≡ true → position_or_len p xs ≡ i
 first_place p [] i d lt none holds = absurd (omega arith)
 first_place p (x ∷ xs) zero d lt none holds = ap (λ b. cond (not b) (1 + position_or_len p xs) 0) holds
-first_place p (x ∷ xs) (suc i) d lt none holds = first_or_later p x xs i (p x) refl none
-    (λ rest. first_place p xs i d (omega arith) rest holds)
-
-position_here : {X : Type 0} (p : X → Bool) (xs : List X) (i : ℕ) (d : X) → i < length xs → find p (take i xs) ≡ None
-    → p (get_or xs i d) ≡ true → position p xs ≡ Some i
-position_here p xs i d lt none holds =
-    ap (λ n. cond (ltb n (length xs)) (Some n) None) (first_place p xs i d lt none holds)
-    ∙ ap (λ b. cond b (Some i) None) (lt-ltb i (length xs) lt)
+first_place p (x ∷ xs) (suc i) d lt none holds = grind (arith, first_place p xs i d (omega arith))
 
 -- so far the given rules and the other ones decide the same names, by the same rules
 pub record AgreeSoFar (given : List MappingRule) (place : ℕ) (other : List MappingRule) (at : ℕ) : Type 0 where
@@ -147,8 +107,7 @@ agree_kept given place other at agree same =
     let inside = slice_get_within other at same.rule same.there in record {
       within = omega (arith, inside);
       few = omega (arith, agree.few);
-      alike = λ side name is.
-          found_more (fits side name) other at same.rule same.there
+      alike = λ side name is. found_more (fits side name) other at same.rule same.there
           ∙ ap (λ found. option_or found (find (fits side name) (same.rule ∷ []))) (agree.alike side name is)
           ∙ sym (found_more (fits side name) given place same.rule same.here);
     }
@@ -163,8 +122,7 @@ left_out given place rule side name is here idle None none true fit = absurd (id
   record {
     name = name;
     is_name = is;
-    is_first = position_here (fits side name) given place rule (slice_get_within given place rule here) (sym none)
-        (ap (fits side name) (get_or_from_slice_get given place rule rule here) ∙ sym fit);
+    is_first = (grind (arith, first_place, lt-ltb, (slice_get_within given place rule here), (sym none), (ap (fits side name) (get_or_from_slice_get given place rule rule here) ∙ sym fit)));
   },
 ))
 left_out given place rule side name is here idle None none false fit = refl
@@ -176,10 +134,8 @@ pub agree_dropped : (given : List MappingRule) (place : ℕ) (rule : MappingRule
 agree_dropped given place rule other at agree here idle = record {
   within = agree.within;
   few = omega (arith, agree.few);
-  alike = λ side name is.
-      agree.alike side name is
-      ∙ sym (left_out given place rule side name is here idle (find (fits side name) (take place given)) refl
-      (fits side name rule) refl)
+  alike = λ side name is. agree.alike side name is
+      ∙ sym (left_out _ _ _ _ _ is here idle _ refl _ refl)
       ∙ sym (found_more (fits side name) given place rule here);
 }
 
@@ -199,14 +155,14 @@ denied_or_same : (given : List MappingRule) (other : List MappingRule) (at : ℕ
     → (deciding side other name ≡ deciding side given name)
     ⊎ (deciding side other name ≡ option_or (deciding side given name) (Some deny_all))
 denied_or_same given other at agree ends side name is =
-    let so_far = agree.alike side name is ∙ ap (find (fits side name)) (take_all (length given) given (omega arith))
+    let so_far = agree.alike side name is ∙ ap (find (fits side name)) (take_all _ _ (omega arith))
     ∙ sym (deciding-find side given name) in
     elim ends [
       | inl all ↦ inl (deciding-find side other name
           ∙ ap (find (fits side name)) (sym (take_all at other (omega (arith, all)))) ∙ so_far)
       | inr last ↦ inr (deciding-find side other name
-          ∙ ap (find (fits side name)) (sym (take_all (at + 1) other (omega (arith, last.0))))
-          ∙ found_more (fits side name) other at deny_all last.1
+          ∙ ap (find (fits side name)) (sym (take_all _ _ (omega (arith, last.0))))
+          ∙ found_more _ _ at deny_all last.1
           ∙ ap (λ found. option_or found (find (fits side name) (deny_all ∷ []))) so_far
           ∙ ap (option_or (deciding side given name)) (denies side name))
     ]
@@ -221,19 +177,13 @@ answer_or_denial : {X : Type 0} (answer : MappingRule → X) (none denial : X) �
     → (after ≡ before) ⊎ (after ≡ option_or before (Some deny_all))
     → (option_map_or answer after none ≡ option_map_or answer before none)
     ⊎ ((option_map_or answer before none ≡ none) × (option_map_or answer after none ≡ denial))
-answer_or_denial answer none denial denies before after (inl same) = inl (ap (λ it. option_map_or answer it none) same)
-answer_or_denial answer none denial denies None after (inr more) =
-    inr (refl, ap (λ it. option_map_or answer it none) more ∙ denies)
-answer_or_denial answer none denial denies (Some rule) after (inr more) =
-    inl (ap (λ it. option_map_or answer it none) more)
+answer_or_denial answer none denial denies before after it = grind arith
 
 pub narrower_rules : (given other : List MappingRule) (place at : ℕ) → length given ≤ place → place ≤ length given
     → AgreeSoFar given place other at → EndsAt other at → NarrowerNames given other
 narrower_rules given other place at past within agree ends =
     let all = subst (λ n. AgreeSoFar given n other at) (omega (arith, past, within)) agree in record {
-      client = λ name is.
-          answer_or_denial (λ rule. answer_by rule.kind rule.prepend name) IsUnterminated IsDenied refl _ _
-          (denied_or_same given other at all ends Client name is);
+      client = λ name is. (grind (arith, refl, (denied_or_same given other at all ends Client name is)));
       server = λ name is.
           answer_or_denial (λ rule. host_answer_by rule.kind rule.prepend name) IsUndecided IsHidden refl _ _
           (denied_or_same given other at all ends Server name is);
@@ -252,26 +202,15 @@ all_narrower_more R xs ys i x y in_xs in_ys here there all one =
 -- what holds place by place holds at a place
 pub holds_at : {X : Type 0} (R : X → X → Type 0) (xs ys : List X) (i : ℕ) (x y : X) → i < length xs → x ≡ get_or xs i x
     → y ≡ get_or ys i y → AllZip R xs ys → R x y
-holds_at R xs ys i x y inside here there all = subst (λ z. R z y) (sym here)
-    (subst (R (get_or xs i x)) (sym there) (AllZip-get_or R xs ys i x y all inside))
+holds_at R xs ys i x y inside here there all = grind (arith, AllZip-get_or)
 
 -- what holds of what the options set up, and of the rest, holds of the guests
 pub are_narrower : {A : Type 0} (given others : List (Guest A)) (sets other_sets : List (SetUp A))
     → AllZip SetsUp given sets → AllZip SetsUp others other_sets → AllZip SameRest given others
     → AllZip NarrowerSet sets other_sets → AreNarrower given others
-are_narrower [] [] sets other_sets sets_up others_set_up rest narrower = tt
-are_narrower [] (o ∷ others) sets other_sets sets_up others_set_up rest narrower = absurd rest
+are_narrower [] other sets other_sets sets_up others_set_up rest narrower = grind arith
 are_narrower (g ∷ given) [] sets other_sets sets_up others_set_up rest narrower = absurd rest
 are_narrower (g ∷ given) (o ∷ others) [] other_sets sets_up others_set_up rest narrower = absurd sets_up
 are_narrower (g ∷ given) (o ∷ others) (s ∷ sets) [] sets_up others_set_up rest narrower = absurd others_set_up
-are_narrower (g ∷ given) (o ∷ others) (s ∷ sets) (t ∷ other_sets) sets_up others_set_up rest narrower = (
-  record {
-    rest = rest.0;
-    set = s;
-    other_set = t;
-    sets_up = sets_up.0;
-    other_sets_up = others_set_up.0;
-    narrower = narrower.0;
-  },
-  are_narrower given others sets other_sets sets_up.1 others_set_up.1 rest.1 narrower.1,
-)
+are_narrower (g ∷ given) (o ∷ others) (s ∷ sets) (t ∷ other_sets) sets_up others_set_up rest narrower =
+    grind (arith, are_narrower given others sets other_sets sets_up.1 others_set_up.1 rest.1 narrower.1)

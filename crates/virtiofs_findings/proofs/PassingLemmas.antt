@@ -1,6 +1,5 @@
 -- The texts of the rules by which guests are compared that have none.
 use Rattle.std.proofs.Common.{◌≡◌, ◌≢◌, ◌++◌, ◌∷◌, ℕ, Bool, true, false, cond, eqb, List, [], refl, arith}
-use Rattle.std.proofs.lemmas.Bool.Decides.{nat_tests}
 use Rattle.std.specs.Prelude.{codes}
 use Rattle.std.specs.Str.{chars}
 use Rattle.virtiofs_map.specs.Rule.{Bad, Okay}
@@ -17,11 +16,7 @@ lacks d (c ∷ cs) = cond (eqb c d) false (lacks d cs)
 
 lacks_tested : (d : ℕ) (text : List ℕ) → lacks d text ≡ true → Lacks d text
 lacks_tested d [] e = tt
-lacks_tested d (c ∷ cs) e = through (eqb c d) (λ no. grind (arith, nat_tests, no)) (lacks_tested d cs) e where
-  through : (b : Bool) → (b ≡ false → c ≢ d) → (lacks d cs ≡ true → Lacks d cs) → cond b false (lacks d cs) ≡ true
-      → Lacks d (c ∷ cs)
-  through true other rest e = cc
-  through false other rest e = (other refl, rest e)
+lacks_tested d (c ∷ cs) e = grind (arith, lacks_tested d cs)
 
 -- the rule that passes each name, and one that refuses those that begin with a key
 abbrev passing : RuleAsWritten
@@ -35,39 +30,13 @@ passing_then = record {
   delimiter = 58;
   body = codes "ok:all:::";
   opens = (refl, refl);
-  fields = (
-    codes "all:::",
-    refl,
-    lacks_tested 58 (codes "ok") refl,
-    (codes "::", refl, lacks_tested 58 (codes "all") refl, (codes ":", refl, tt, ([], refl, tt, refl))),
-  );
+  fields = grind (arith, lacks_tested);
   no_nul = (tt, tt);
 }
 
 refusing_then : (key after : List ℕ) → lacks 58 key ≡ true → lacks 0 key ≡ true
     → RuleThen (codes ":bad:all:" ++ (key ++ 58 ∷ (key ++ 58 ∷ after))) (refusing key) after
-refusing_then key after no_colon no_nul = record {
-  delimiter = 58;
-  body = codes "bad:all:" ++ (key ++ 58 ∷ (key ++ 58 ∷ after));
-  opens = (refl, refl);
-  fields = (
-    codes "all:" ++ (key ++ 58 ∷ (key ++ 58 ∷ after)),
-    refl,
-    lacks_tested 58 (codes "bad") refl,
-    (
-      key ++ 58 ∷ (key ++ 58 ∷ after),
-      refl,
-      lacks_tested 58 (codes "all") refl,
-      (
-        key ++ 58 ∷ after,
-        refl,
-        lacks_tested 58 key no_colon,
-        (after, refl, lacks_tested 58 key no_colon, refl),
-      ),
-    ),
-  );
-  no_nul = (lacks_tested 0 key no_nul, lacks_tested 0 key no_nul);
-}
+refusing_then key after no_colon no_nul = grind (arith, lacks_tested)
 
 -- a rule that refuses names is no map rule
 plain : (key : List ℕ) → (refusing key).head ≢ Map

@@ -1,18 +1,17 @@
 -- Where something is told of texts that are refused.
-use Rattle.std.proofs.Common.{◌≡◌, ◌≢◌, ◌⊎◌, ◌↔◌, inl, inr, ℕ, ◌+◌, List, [], ◌∷◌, ◌++◌, Option, Some, None, refl, sym}
+use Rattle.std.proofs.Common.{◌≡◌, ◌≢◌, ◌⊎◌, ◌↔◌, inl, inr, ℕ, ◌+◌, List, [], ◌∷◌, ◌++◌, Option, Some, None, refl, sym, arith, rules}
 use Rattle.std.proofs.Common.{Bool, ◌∙◌, append_assoc, subst}
 use Rattle.std.proofs.lemmas.List.Elements.{Contains-get_or}
 use Rattle.std.proofs.lemmas.Option.{none-some, same_Some, slice_get_within, slice_get-get_or}
 use Rattle.std.specs.Prelude.{IsSomeAnd, slice_get, Contains}
+use Rattle.virtiofs_map.specs.NamespaceText.{NamespaceFault, HasNamespaceFault}
 use Rattle.std.specs.Borrow.{Bor}
 use Rattle.std.specs.List.{AllZip}
 use Rattle.std.specs.Str.{chars}
-use Rattle.virtiofs_map.specs.Specifications.{Unread, Unbuilt}
 use Rattle.virtiofs_map.proofs.ForCallers.{texts_no_fault, rules_no_fault}
 use Rattle.virtiofs_findings.proofs.SetUpLemmas.{ranges_right}
-use Rattle.virtiofs_map.specs.NamespaceText.{NamespaceFault, HasNamespaceFault}
-use Rattle.virtiofs_findings.specs.Guests.{RefusesSpecs, RefusesRanges, ReadsIds, ReadsNames, SetsUp, IsRefused}
-use Rattle.virtiofs_findings.specs.Refusals.{TellsSpecs, TellsRanges, TellsIds, TellsNames, TellsGuest}
+use Rattle.virtiofs_findings.specs.Guests.{HasNoRange, RefusesSpecs, RefusesRanges, ReadsIds, ReadsNames, SetsUp, IsRefused}
+use Rattle.virtiofs_findings.specs.Refusals.{TellsNoRange, TellsRanges, TellsIds, TellsNames, TellsGuest}
 use Rattle.virtiofs_findings.specs.Refusals.{TellsGuests, IsSomeRefused}
 use Rattle.virtiofs_findings.specs.declared.ids.kind.IdKind.{IdKind}
 use Rattle.virtiofs_findings.specs.declared.refusal.Refusal.{Refusal}
@@ -25,101 +24,83 @@ use Rattle.virtiofs_findings.specs.declared.guest.Guest.{Guest}
 -- ---- lists
 
 one_some : {T : Type 0} (x : T) (xs : List T) → xs ≡ x ∷ [] → xs ≢ []
-one_some x [] is none = cc
-one_some x (y ∷ ys) is none = cc
+one_some x xs is none = cc
 
 -- where one of two lists has something
 both_some : {T : Type 0} (P Q : Type 0) (xs ys both : List T) → both ≡ xs ++ ys → ((xs ≢ []) ↔ P) → ((ys ≢ []) ↔ Q)
     → (both ≢ []) ↔ (P ⊎ Q)
-both_some P Q [] ys both is p q = (
-  (λ some. inr (q.0 (λ none. some (is ∙ none)))),
-  (λ one none.
-      elim one [
-        | inl first ↦ p.1 first refl
-        | inr second ↦ q.1 second (sym is ∙ none)
-      ]),
-)
+both_some P Q [] ys both is p q = grind arith
 both_some P Q (x ∷ xs) ys both is p q = ((λ some. inl (p.0 (λ none. cc))), (λ one none. (cc)))
 
 -- ---- texts
 
-specs_told : {A : Type 0} (number : ℕ) (kind : IdKind) (texts : List (List ℕ)) (told : List (Refusal A))
-    → TellsSpecs number kind texts told → (told ≢ []) ↔ RefusesSpecs texts
-specs_told number kind texts told (inl (right, none)) =
-    ((λ some. absurd (some none)), (λ wrong. absurd (right wrong)))
-specs_told number kind texts told (inr (Unread index fault, has, (refusal, at, alone))) =
-    ((λ some. (Unread index fault, has)), (λ wrong. one_some refusal told alone))
-specs_told number kind texts told (inr (Unbuilt fault, has, tells)) =
-    ((λ some. (Unbuilt fault, has)), (λ wrong. one_some tells.refusal told tells.alone))
-
 -- the text at a place that says no range
 no_range_at : (texts : List (List ℕ)) (place : ℕ)
     → IsSomeAnd (slice_get texts place) (λ text. (fault : NamespaceFault) × HasNamespaceFault text fault)
-    → RefusesRanges texts
+    → HasNoRange texts
 no_range_at texts place here = at (slice_get texts place) refl here where
   at : (found : Option (List ℕ)) → slice_get texts place ≡ found
-      → IsSomeAnd found (λ text. (fault : NamespaceFault) × HasNamespaceFault text fault) → RefusesRanges texts
+      → IsSomeAnd found (λ text. (fault : NamespaceFault) × HasNamespaceFault text fault) → HasNoRange texts
   at None is none = absurd none
   at (Some text) is (fault, wrong) =
       let below = slice_get_within texts place text is in
       let same = same_Some _ _ (sym is ∙ slice_get-get_or texts place text below) in
       (text, fault, subst (Contains texts) (sym same) (Contains-get_or texts place text below), wrong)
 
-ranges_told : {A : Type 0} (number : ℕ) (kind : IdKind) (texts : List (List ℕ)) (told : List (Refusal A))
-    → TellsRanges number kind texts told → (told ≢ []) ↔ RefusesRanges texts
-ranges_told number kind texts told (inl (right, none)) =
-    ((λ some. absurd (some none)), (λ wrong. absurd (right wrong)))
-ranges_told number kind texts told (inr (place, first, (refusal, at, alone))) =
-    ((λ some. no_range_at texts place first.here), (λ wrong. one_some refusal told alone))
+no_range_told : {A : Type 0} (number : ℕ) (kind : IdKind) (texts : List (List ℕ)) (told : List (Refusal A))
+    → TellsNoRange number kind texts told → (told ≢ []) ↔ HasNoRange texts
+no_range_told number kind texts told it = grind (arith, no_range_at, one_some)
+
+ranges_told : {A : Type 0} (number : ℕ) (kind : IdKind) (by_another : Bool) (texts : List (List ℕ))
+    (told : List (Refusal A)) → TellsRanges number kind by_another texts told
+    → (told ≢ []) ↔ RefusesRanges by_another texts
+ranges_told number kind by_another texts told (inl (knows, tells)) =
+    let same = no_range_told number kind texts told tells in
+    ((λ some. inl (same.0 some)), (λ wrong. elim wrong [ inl none ↦ same.1 none | inr unknown ↦ absurd (knows unknown) ]))
+ranges_told number kind by_another texts told (inr (unknown, (refusal, at, alone))) = grind arith
 
 -- ---- what is set up
 
-ids_none : {A : Type 0} (bounds : Option (Bounds A)) (sets_up : Bool) (specs ranges : List (List ℕ))
-    (set : Option (IdSetUp A)) → ReadsIds bounds sets_up specs ranges set
-    → (RefusesSpecs specs ⊎ RefusesRanges ranges) ↔ (set ≡ None)
-ids_none bounds sets_up specs ranges (Some set) (say, accepted, say_ranges, runs) = (
+ids_none : {A : Type 0} (bounds : Option (Bounds A)) (by_another sets_up : Bool) (specs ranges : List (List ℕ))
+    (set : Option (IdSetUp A)) → ReadsIds bounds by_another sets_up specs ranges set
+    → (RefusesSpecs specs ⊎ RefusesRanges by_another ranges) ↔ (set ≡ None)
+ids_none bounds by_another sets_up specs ranges (Some set) (say, accepted, reads, runs) = (
   (λ wrong. elim wrong [
     | inl (fault, has) ↦ absurd (texts_no_fault specs set.map fault say accepted has)
-    | inr refused ↦ absurd (ranges_right ranges set.written.items say_ranges refused)
+    | inr (inl none) ↦ absurd (ranges_right ranges set.written.items reads.0 none)
+    | inr (inr unknown) ↦ absurd (reads.1 unknown)
   ]),
   (λ none. absurd (none-some set (sym none))),
 )
-ids_none bounds sets_up specs ranges None refused = ((λ wrong. refl), (λ none. refused))
+ids_none bounds by_another sets_up specs ranges None refused = ((λ wrong. refl), (λ none. refused))
 
-ids_told : {A : Type 0} (bounds : Option (Bounds A)) (sets_up : Bool) (number : ℕ) (kind : IdKind)
+ids_told : {A : Type 0} (bounds : Option (Bounds A)) (by_another sets_up : Bool) (number : ℕ) (kind : IdKind)
     (specs ranges : List (List ℕ)) (set : Option (IdSetUp A)) (told : List (Refusal A))
-    → ReadsIds bounds sets_up specs ranges set → TellsIds number kind specs ranges told
+    → ReadsIds bounds by_another sets_up specs ranges set → TellsIds number kind by_another specs ranges told
     → (told ≢ []) ↔ (set ≡ None)
-ids_told bounds sets_up number kind specs ranges set told reads tells =
-    let none = ids_none bounds sets_up specs ranges set reads in
+ids_told bounds by_another sets_up number kind specs ranges set told reads tells =
+    let none = ids_none bounds by_another sets_up specs ranges set reads in
     let both =
-    both_some (RefusesSpecs specs) (RefusesRanges ranges) tells.of_specs tells.of_ranges told tells.whole
-    (specs_told number _ specs tells.of_specs tells.tells_specs)
-    (ranges_told number _ ranges tells.of_ranges tells.tells_ranges) in
+    both_some (RefusesSpecs specs) (RefusesRanges by_another ranges) tells.of_specs tells.of_ranges told tells.whole
+    (grind arith) (ranges_told number _ by_another ranges tells.of_ranges tells.tells_ranges) in
     ((λ some. none.0 (both.0 some)), (λ is. both.1 (none.1 is)))
 
 names_told : {A : Type 0} (number : ℕ) (rules : Option (Bor (List ℕ))) (set : Option (NamesSetUp A))
     (told : List (Refusal A)) → ReadsNames rules set → TellsNames number rules told
     → (told ≢ []) ↔ ((rules ≢ None) × (set ≡ None))
 names_told number None set told reads none = ((λ some. absurd (some none)), (λ is. absurd (is.0 refl)))
-names_told number (Some text) (Some set) told reads (inl (right, none)) =
-    ((λ some. absurd (some none)), (λ is. absurd (none-some set (sym is.1))))
+names_told number (Some text) (Some set) told reads (inl (right, none)) = grind arith
 names_told number (Some text) (Some set) told reads (inr tells) =
     absurd (rules_no_fault (chars text.now) set.map tells.fault reads.0 tells.has)
-names_told number (Some text) None told reads (inl (right, none)) = absurd (right reads)
-names_told number (Some text) None told reads (inr tells) = (
-  (λ some. ((λ none. none-some text (sym none)), refl)),
-  (λ is. one_some tells.refusal told tells.alone),
-)
+names_told number (Some text) None told reads other = grind arith
 
 guest_told : {A : Type 0} (number : ℕ) (guest : Guest A) (set : SetUp A) (told : List (Refusal A)) → SetsUp guest set
     → TellsGuest number guest told → (told ≢ []) ↔ IsRefused guest set
 guest_told number guest set told sets_up tells =
     both_some _ _ tells.of_users (tells.of_groups ++ tells.of_names) told
     (tells.whole ∙ append_assoc tells.of_users tells.of_groups tells.of_names)
-    (ids_told _ _ number _ _ _ set.users tells.of_users sets_up.users tells.users)
-    (both_some _ _ tells.of_groups tells.of_names (tells.of_groups ++ tells.of_names) refl
-    (ids_told _ _ number _ _ _ set.groups tells.of_groups sets_up.groups tells.groups)
+    (ids_told _ _ _ number _ _ _ set.users tells.of_users sets_up.users tells.users) (both_some _ _ _ _ _ refl
+    (ids_told _ _ _ number _ _ _ set.groups tells.of_groups sets_up.groups tells.groups)
     (names_told number _ set.names tells.of_names sets_up.names tells.names))
 
 -- something is told of guests exactly where a text of one is refused
@@ -129,5 +110,4 @@ pub told_where_refused : {A : Type 0} (number : ℕ) (guests : List (Guest A)) (
 told_where_refused number [] sets told all none = ((λ some. absurd (some none)), (λ some. absurd some))
 told_where_refused number (guest ∷ guests) [] told all tells = absurd all
 told_where_refused number (guest ∷ guests) (set ∷ sets) told (sets_up, all) (first, rest, tells, tells_rest, whole) =
-    both_some _ _ first rest told whole (guest_told number guest set first sets_up tells)
-    (told_where_refused (number + 1) guests sets rest all tells_rest)
+    search (rules, told_where_refused (number + 1) guests sets rest all tells_rest, both_some, guest_told)

@@ -1,8 +1,9 @@
 -- What the options of a guest set up, and what is told of texts that are refused.
-use Rattle.std.proofs.Common.{◌≡◌, inl, inr, ℕ, ◌+◌, ◌<◌, List, [], ◌∷◌, ◌++◌, length, take, get_or}
+use Rattle.std.proofs.lemmas.Grind.{common_steps}
+use Rattle.std.proofs.Common.{◌≡◌, inl, inr, ℕ, ◌+◌, ◌<◌, List, [], ◌∷◌, ◌++◌, length, take, get_or, rules}
 use Rattle.std.proofs.Common.{Option, Some, None, Result, Ok, Err, OnOk, refl, sym, ap, ◌∙◌, subst, append_assoc, arith}
 use Rattle.std.proofs.Common.{append-nil, string_bytes}
-use Rattle.std.specs.Prelude.{IsSomeAnd, slice_get, slice_index_or, zero, suc}
+use Rattle.std.specs.Prelude.{Bool, IsSomeAnd, slice_get, slice_index_or, zero, suc}
 use Rattle.std.specs.Borrow.{Bor}
 use Rattle.std.specs.List.{AllZip}
 use Rattle.std.specs.Option.{option_map, option_map_or}
@@ -17,7 +18,7 @@ use Rattle.virtiofs_map.specs.Refusal.{OutOfMemoryOr}
 use Rattle.virtiofs_map.specs.RulesFault.{RulesFault, HasRulesFault, InRule, NotOfText, rule_fault_of, fault_at}
 use Rattle.virtiofs_map.specs.RulesFault.{rules_fault_of}
 use Rattle.virtiofs_map.specs.SpecificationText.{SpecificationFault, specification_fault_of}
-use Rattle.virtiofs_map.specs.Specifications.{texts_of, AllSay, SpecsFault, HasSpecsFault, Unread, Unbuilt, specs_fault_of}
+use Rattle.virtiofs_map.specs.Specifications.{texts_of, AllSay, SpecsFault, Unread, Unbuilt, specs_fault_of}
 use Rattle.virtiofs_map.specs.declared.cmdline.IdMap.{IdMap}
 use Rattle.virtiofs_map.specs.declared.cmdline.IdMapError.{IdMapError}
 use Rattle.virtiofs_map.specs.declared.idmap.UidMap.{UidMap}
@@ -26,14 +27,13 @@ use Rattle.virtiofs_map.specs.declared.soft_idmap.errors.SpecsError.{SpecsError}
 use Rattle.virtiofs_map.specs.declared.soft_idmap.errors.SpecsError.TheVariants as errors
 use Rattle.virtiofs_map.specs.declared.xattrmap.errors.Error.{Error}
 use Rattle.virtiofs_map.proofs.ForCallers.{AllZip-push, texts_no_fault, namespace_no_fault, rules_no_fault}
-use Rattle.virtiofs_findings.specs.Guests.{SaysRange, RefusesRanges, ReadsText, SetsUp}
+use Rattle.virtiofs_findings.specs.Guests.{SaysRange, HasNoRange, LeaveUnknown, ReadsText, SetsUp, is_by_another}
 use Rattle.virtiofs_findings.specs.Lists.{Adds}
-use Rattle.virtiofs_findings.specs.Refusals.{IsAt, TellsPlace, TellsBuildFault, TellsSpecsFault}
-use Rattle.virtiofs_findings.specs.Refusals.{TellsSpecs, TellsRanges, TellsNames, TellsGuest, place_of}
-use Rattle.virtiofs_findings.specs.Refusals.{TellsIds}
+use Rattle.virtiofs_findings.specs.Refusals.{IsAt, TellsPlace, TellsBuildFault, TellsSpecsFault, TellsIds}
+use Rattle.virtiofs_findings.specs.Refusals.{TellsSpecs, TellsNoRange, TellsRanges, TellsNames, TellsGuest, place_of}
 use Rattle.virtiofs_findings.specs.declared.refusal.Refusal.{Refusal}
 use Rattle.virtiofs_findings.specs.declared.refusal.Refused.{Refused}
-use Rattle.virtiofs_findings.specs.declared.refusal.Refused.TheVariants.{Spec, Range, Rules}
+use Rattle.virtiofs_findings.specs.declared.refusal.Refused.TheVariants.{Spec, Range, Own, Rules}
 use Rattle.virtiofs_findings.specs.declared.ids.kind.IdKind.{IdKind}
 use Rattle.virtiofs_findings.specs.declared.ids.kind.IdKind.TheVariants.{Users, Groups}
 use Rattle.virtiofs_findings.specs.declared.guest.Guest.{Guest}
@@ -57,17 +57,12 @@ sets_up_more guests sets place guest set is below all one =
 -- what was added in two parts
 adds_both : {T : Type 0} (P Q R : List T → Type 0) (before between after : List T) → Adds P before between
     → Adds Q between after → ((first second : List T) → P first → Q second → R (first ++ second)) → Adds R before after
-adds_both P Q R before between after first second whole = record {
-  more = first.more ++ second.more;
-  is = whole first.more second.more first.is second.is;
-  added = in_two before first.more second.more between after first.added second.added;
-}
+adds_both P Q R before between after first second whole = grind (arith, common_steps, in_two)
 
 -- a call that tells a fault
 pub tells_fault : {F T E : Type 0} (r : Result T E) (told : Option F) (fault : F) → told ≡ Some fault
     → OnOk r ((f : F) × (told ≡ Some f))
-tells_fault (Ok x) told fault is = (fault, is)
-tells_fault (Err e) told fault is = tt
+tells_fault r told fault is = grind arith
 
 -- a refusal of an option at a place
 pub adds_place : {A T E : Type 0} (r : Result T E) (before after : List (Refusal A)) (number : ℕ)
@@ -75,8 +70,7 @@ pub adds_place : {A T E : Type 0} (r : Result T E) (before after : List (Refusal
     → OnOk r ((refusal : Refusal A) × IsAt number what refusal × (string_bytes refusal.why ≡ why)
     × (after ≡ before ++ refusal ∷ []))
     → OnOk r (Adds (TellsPlace number what) before after)
-adds_place (Ok x) before after number what why (refusal, at, same, added) =
-    record { more = refusal ∷ []; is = (refusal, at, refl); added = added }
+adds_place (Ok x) before after number what why (refusal, at, same, added) = search rules
 adds_place (Err e) before after number what why added = tt
 
 -- a refusal of a specification of which no map is made
@@ -129,21 +123,8 @@ adds_no_specs number kind texts specs before after same say accepted = record {
   added = same ∙ sym (append-nil before);
 }
 
--- else their fault is told
-pub adds_specs : {A : Type 0} (number : ℕ) (kind : IdKind) (texts : List (List ℕ)) (error : Option SpecsFault)
-    (before after : List (Refusal A))
-    → OutOfMemoryOr error (HasSpecsFault texts)
-    → ((f : SpecsFault) × (error ≡ Some f) × Adds (TellsSpecsFault number kind f) before after)
-    → Adds (TellsSpecs number kind texts) before after
-adds_specs number kind texts None before after about (fault, is, adds) = absurd (cc)
-adds_specs number kind texts (Some one) before after about (fault, is, adds) = record {
-  more = adds.more;
-  is = inr (fault, subst (HasSpecsFault texts) (same_Some _ _ is) about, adds.is);
-  added = adds.added;
-}
-
 -- ranges that all are read are not refused
-pub ranges_right : (texts : List (List ℕ)) (ranges : List UidMap) → AllZip SaysRange texts ranges → ¬ RefusesRanges texts
+pub ranges_right : (texts : List (List ℕ)) (ranges : List UidMap) → AllZip SaysRange texts ranges → ¬ HasNoRange texts
 ranges_right texts ranges say (text, fault, within, wrong) =
     All-contains IsRight texts text (each texts ranges say) within fault wrong where
       IsRight : List ℕ → Type 0
@@ -158,16 +139,6 @@ ranges_right texts ranges say (text, fault, within, wrong) =
           λ f. namespace_no_fault x range.inside_uid range.outside_uid range.count f say.0
       each (x ∷ texts) (range ∷ ranges) say (suc k) d below = each texts ranges say.1 k d (omega (below, arith))
 
--- nothing is told of ranges that all are read
-pub adds_no_ranges : {A : Type 0} (number : ℕ) (kind : IdKind) (texts : List (List ℕ)) (ranges : List UidMap)
-    (before after : List (Refusal A))
-    → after ≡ before → AllZip SaysRange texts ranges → Adds (TellsRanges number kind texts) before after
-adds_no_ranges number kind texts ranges before after same say = record {
-  more = [];
-  is = inl (ranges_right texts ranges say, refl);
-  added = same ∙ sym (append-nil before);
-}
-
 -- the first that is not read is told of
 pub adds_range : {A : Type 0} (number : ℕ) (kind : IdKind) (why : List ℕ) (texts : List (Bor (List ℕ))) (ranges : List UidMap)
     (i : ℕ)
@@ -176,7 +147,7 @@ pub adds_range : {A : Type 0} (number : ℕ) (kind : IdKind) (why : List ℕ) (t
     → HasNamespaceFault (chars (get_or texts i d).now) fault
     → ((refusal : Refusal A) × IsAt number (Range kind i) refusal × (string_bytes refusal.why ≡ why)
     × (after ≡ before ++ refusal ∷ []))
-    → Adds (TellsRanges number kind (texts_of texts)) before after
+    → Adds (TellsNoRange number kind (texts_of texts)) before after
 adds_range number kind why texts ranges i d fault before after below say wrong (refusal, at, same, added) = record {
   more = refusal ∷ [];
   is = inr (
@@ -236,51 +207,29 @@ adds_rules number rules text error refusal before after is_text about (fault, is
   has None is about = absurd (cc)
   has (Some one) is about = subst (HasRulesFault (chars text.now)) (same_Some _ _ is) about
 
--- nothing is told where there are no rules
-pub adds_no_names : {A : Type 0} (number : ℕ) (rules : Option (Bor (List ℕ))) (before after : List (Refusal A))
-    → rules ≡ None → after ≡ before
-    → Adds (TellsNames number rules) before after
-adds_no_names number None before after is same =
-    record { more = []; is = refl; added = same ∙ sym (append-nil before) }
-adds_no_names number (Some text) before after is same = absurd (cc)
+-- and where it is not
+pub adds_unknown : {A : Type 0} (number : ℕ) (kind : IdKind) (by_another : Bool) (texts : List (List ℕ))
+    (before after : List (Refusal A)) (refusal : Refusal A) → LeaveUnknown by_another texts → IsAt number (Own kind) refusal
+    → after ≡ before ++ refusal ∷ [] → Adds (TellsRanges number kind by_another texts) before after
+adds_unknown number kind by_another texts before after refusal unknown at_one is =
+    record { more = refusal ∷ []; is = inr (unknown, (refusal, at_one, refl)); added = is }
 
 -- what is told of both options of a kind
-pub adds_ids : {A : Type 0} (number : ℕ) (kind : IdKind) (specs ranges : List (List ℕ))
+pub adds_ids : {A : Type 0} (number : ℕ) (kind : IdKind) (by_another : Bool) (specs ranges : List (List ℕ))
     (before between after : List (Refusal A))
-    → Adds (TellsSpecs number kind specs) before between → Adds (TellsRanges number kind ranges) between after
-    → Adds (TellsIds number kind specs ranges) before after
-adds_ids number kind specs ranges before between after first second =
-    adds_both _ _ _ before between after first second
-    (λ of_specs of_ranges tells tells_too. record {
-      of_specs = of_specs;
-      of_ranges = of_ranges;
-      tells_specs = tells;
-      tells_ranges = tells_too;
-      whole = refl;
-    })
+    → Adds (TellsSpecs number kind specs) before between → Adds (TellsRanges number kind by_another ranges) between after
+    → Adds (TellsIds number kind by_another specs ranges) before after
+adds_ids number kind by_another specs ranges before between after first second = search (rules, adds_both)
 
 -- what is told of users, of groups and of names
 pub adds_kinds : {A : Type 0} (number : ℕ) (guest : Guest A) (before first second after : List (Refusal A))
-    → Adds (TellsIds number Users (texts_of guest.options.translate_uid.items) (texts_of guest.options.uid_map.items))
+    → Adds (TellsIds number Users (is_by_another guest) (texts_of guest.options.translate_uid.items) (texts_of guest.options.uid_map.items))
     before first
-    → Adds (TellsIds number Groups (texts_of guest.options.translate_gid.items) (texts_of guest.options.gid_map.items))
+    → Adds (TellsIds number Groups (is_by_another guest) (texts_of guest.options.translate_gid.items) (texts_of guest.options.gid_map.items))
     first second
     → Adds (TellsNames number guest.options.xattrmap) second after
     → Adds (TellsGuest number guest) before after
-adds_kinds {A = A} number guest before first second after users groups names =
-    adds_both _ (λ told. (of_groups : List (Refusal A)) × (of_names : List (Refusal A))
-    × TellsIds number Groups (texts_of guest.options.translate_gid.items) (texts_of guest.options.gid_map.items) of_groups
-    × TellsNames number guest.options.xattrmap of_names × (told ≡ of_groups ++ of_names)) _ before first after users
-    (adds_both _ _ _ first second after groups names (λ of_groups of_names is is_too. (of_groups, of_names, is, is_too, refl)))
-    (λ of_users told is rest. record {
-      of_users = of_users;
-      of_groups = rest.0;
-      of_names = rest.1;
-      users = is;
-      groups = rest.2;
-      names = rest.3;
-      whole = ap (λ t. of_users ++ t) rest.4 ∙ sym (append_assoc of_users rest.0 rest.1);
-    })
+adds_kinds {A = A} number guest before first second after users groups names = grind (arith, adds_both, append_assoc)
 
 -- ---- faults
 
@@ -308,7 +257,7 @@ says_more texts ranges i d range below say here =
 
 -- a text that says none
 pub refuses_range : (texts : List (Bor (List ℕ))) (i : ℕ) (d : Bor (List ℕ)) (fault : NamespaceFault) → i < length texts
-    → HasNamespaceFault (chars (get_or texts i d).now) fault → RefusesRanges (texts_of texts)
+    → HasNamespaceFault (chars (get_or texts i d).now) fault → HasNoRange (texts_of texts)
 refuses_range texts i d fault below wrong =
     let f : Bor (List ℕ) → List ℕ = λ text. chars text.now in
     let is = get_or-map f texts i d (f d) below in

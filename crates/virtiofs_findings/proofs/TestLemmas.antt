@@ -1,5 +1,5 @@
 -- Tests that fail, and denied ones.
-use Rattle.std.proofs.Common.{◌≡◌, ◌↔◌, ◌∙◌, Bool, true, false, not, IsTrue, refl, sym}
+use Rattle.std.proofs.Common.{◌≡◌, ◌↔◌, ◌∙◌, Bool, false, not, IsTrue, sym, arith}
 use Rattle.std.proofs.lemmas.Bool.{true≢false}
 
 -- a test that fails
@@ -8,5 +8,4 @@ decides_not test says fails holds = true≢false (sym (says.1 holds) ∙ fails)
 
 -- what denies a test
 pub denied : {P : Type 0} (test : Bool) → IsTrue test ↔ P → IsTrue (not test) ↔ (¬ P)
-denied true says = ((λ is. absurd (true≢false (sym is))), (λ fails. absurd (fails (says.0 refl))))
-denied false says = ((λ is holds. true≢false (sym (says.1 holds))), (λ fails. refl))
+denied test says = grind arith

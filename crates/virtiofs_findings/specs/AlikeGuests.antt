@@ -8,7 +8,8 @@ use Rattle.virtiofs_findings.specs.declared.guest.Guest.{Guest}
 use Rattle.virtiofs_host.specs.declared.runner.Runner.{Runner}
 use Rattle.virtiofs_options.specs.GuestOptions.{has_xattrs}
 use Rattle.virtiofs_options.specs.declared.starter.Starter.{Starter}
-use Rattle.virtiofs_options.specs.declared.starter.Starter.TheVariants.{ByRoot, ByOther, InNamespace}
+use Rattle.virtiofs_options.specs.declared.starter.By.{By}
+use Rattle.virtiofs_options.specs.declared.starter.By.TheVariants.{Root, Another, InNamespace}
 
 -- the texts are the same, one by one
 abbrev pub are_same : List (Bor (List ℕ)) → List (Bor (List ℕ)) → Bool
@@ -26,11 +27,14 @@ are_both true other = other
 are_both false other = not other
 
 -- the words before the daemon's say the same of both
+abbrev pub is_same_by : By → By → Bool
+is_same_by Root Root = true
+is_same_by Another Another = true
+is_same_by InNamespace InNamespace = true
+is_same_by one other = false
+
 abbrev pub is_same_starter : Starter → Starter → Bool
-is_same_starter ByRoot ByRoot = true
-is_same_starter ByOther ByOther = true
-is_same_starter InNamespace InNamespace = true
-is_same_starter one other = false
+is_same_starter one other = is_same_by one.by other.by && is_same one.user other.user
 
 -- one runner, or none is said in both places
 abbrev pub is_same_runner : {A : Type 0} → Option (Bor (Runner A)) → Option (Bor (Runner A)) → Bool

@@ -13,10 +13,12 @@ use Rattle.virtiofs_map.specs.declared.cmdline.IdMap.{IdMap}
 use Rattle.virtiofs_map.specs.declared.idmap.UidMap.{UidMap}
 use Rattle.virtiofs_findings.specs.declared.guest.Guest.{Guest}
 use Rattle.virtiofs_host.specs.declared.runner.Bounds.{Bounds}
-use Rattle.virtiofs_findings.specs.Ranges.{FindsFault, Differ, own_of, ranges_of}
+use Rattle.virtiofs_findings.specs.Ranges.{FindsFault, Differ, own_of, ranges_of, said_own, taken}
 use Rattle.virtiofs_options.specs.GuestOptions.{has_xattrs, sandbox_of, text_in}
 use Rattle.virtiofs_options.specs.declared.guest.Sandbox.{Sandbox}
 use Rattle.virtiofs_options.specs.declared.guest.Sandbox.TheVariants.{Namespace, Chroot, Nothing}
+use Rattle.virtiofs_options.specs.declared.starter.By.{By}
+use Rattle.virtiofs_options.specs.declared.starter.By.TheVariants.{Root, Another, InNamespace}
 use Rattle.virtiofs_findings.specs.declared.setup.IdSetUp.{IdSetUp}
 use Rattle.virtiofs_findings.specs.declared.setup.NoStart.{NoStart}
 use Rattle.virtiofs_findings.specs.declared.setup.NoStart.TheVariants.{MapsAsRoot, MapsOutside, ChrootByUser}
@@ -32,8 +34,17 @@ abbrev pub RefusesSpecs : List (List ℕ) → Type 0
 RefusesSpecs texts = (fault : SpecsFault) × HasSpecsFault texts fault
 
 -- some text says no range
-abbrev pub RefusesRanges : List (List ℕ) → Type 0
-RefusesRanges texts = (text : List ℕ) × (fault : NamespaceFault) × Contains texts text × HasNamespaceFault text fault
+abbrev pub HasNoRange : List (List ℕ) → Type 0
+HasNoRange texts = (text : List ℕ) × (fault : NamespaceFault) × Contains texts text × HasNamespaceFault text fault
+
+-- as which id a daemon acts is not known: another user than root starts it, of whom it is not said who it is, and it has no
+-- ranges
+abbrev pub LeaveUnknown : Bool → List (List ℕ) → Type 0
+LeaveUnknown by_another texts = IsTrue by_another × (texts ≡ [])
+
+-- some text says no range, or as which id the daemon acts is not known
+abbrev pub RefusesRanges : Bool → List (List ℕ) → Type 0
+RefusesRanges by_another texts = HasNoRange texts ⊎ LeaveUnknown by_another texts
 
 -- the text is no text of rules
 abbrev pub RefusesRules : List ℕ → Type 0
@@ -44,16 +55,21 @@ abbrev pub ReadsSpecs : List (List ℕ) → Option (List IdMap) → Type 0
 ReadsSpecs texts (Some specs) = AllSay texts specs × Accepted specs
 ReadsSpecs texts None = RefusesSpecs texts
 
--- the ranges that the texts say, or none where they are refused
-abbrev pub ReadsRanges : List (List ℕ) → Option (List UidMap) → Type 0
-ReadsRanges texts (Some ranges) = AllZip SaysRange texts ranges
-ReadsRanges texts None = RefusesRanges texts
+-- the ranges that the texts say, or none where one says no range
+abbrev pub SayRanges : List (List ℕ) → Option (List UidMap) → Type 0
+SayRanges texts (Some ranges) = AllZip SaysRange texts ranges
+SayRanges texts None = HasNoRange texts
+
+-- the same, or none where they are refused
+abbrev pub ReadsRanges : Bool → List (List ℕ) → Option (List UidMap) → Type 0
+ReadsRanges by_another texts (Some ranges) = AllZip SaysRange texts ranges × (¬ LeaveUnknown by_another texts)
+ReadsRanges by_another texts None = RefusesRanges by_another texts
 
 -- the namespace that the daemon runs in, by the ranges of its options and by who runs it; what is wrong with these ranges
 pub record RunsIn {A : Type 0} (bounds : Option (Bounds A)) (sets_up : Bool) (set : IdSetUp A) : Type 0 where
-  pub ranges : set.ranges.items ≡ ranges_of bounds sets_up set.written.items
-  pub fault : FindsFault bounds set.written.items set.fault
-  pub differs : IsTrue set.differs ↔ Differ bounds set.written.items
+  pub ranges : set.ranges.items ≡ ranges_of bounds sets_up (taken (said_own bounds) set.written.items)
+  pub fault : FindsFault bounds (taken (said_own bounds) set.written.items) set.fault
+  pub differs : IsTrue set.differs ↔ Differ bounds (taken (said_own bounds) set.written.items)
 
 -- what bounds the users and the groups of the daemon of a guest, if it is said who runs it
 abbrev pub users_of : {A : Type 0} → Guest A → Option (Bounds A)
@@ -84,6 +100,17 @@ has_namespaces guest = is_namespaces (sandbox_of (text_in guest.options.sandbox)
 abbrev pub is_bounded : {A : Type 0} → Guest A → Bool
 is_bounded guest = (has_namespaces guest && has_ranges guest) || nat_lt 0 (own_of (users_of guest))
 
+-- another user than root starts the daemon, of whom it is not said who it is: words say so, or it has ranges of a
+-- namespace, with which root does not start
+abbrev pub is_other : By → Bool
+is_other Root = false
+is_other Another = true
+is_other InNamespace = false
+
+abbrev pub is_by_another : {A : Type 0} → Guest A → Bool
+is_by_another guest =
+    not (is_some guest.runner) && (is_other guest.options.starter.by || has_ranges guest)
+
 -- the user who starts the daemon, if that is said
 abbrev pub starter_of : {A : Type 0} → Guest A → Option ℕ
 starter_of guest = option_map (λ bounds. bounds.own) (users_of guest)
@@ -107,10 +134,12 @@ no_start_of guest =
     else no_start (has_ranges guest) (sandbox_of (text_in guest.options.sandbox)) (starter_of guest)
 
 -- what the texts set up for ids of a kind; nothing where one of them is refused
-abbrev pub ReadsIds : {A : Type 0} → Option (Bounds A) → Bool → List (List ℕ) → List (List ℕ) → Option (IdSetUp A) → Type 0
-ReadsIds bounds sets_up texts ranges (Some set) =
-    AllSay texts set.map × Accepted set.map × AllZip SaysRange ranges set.written.items × RunsIn bounds sets_up set
-ReadsIds bounds sets_up texts ranges None = RefusesSpecs texts ⊎ RefusesRanges ranges
+abbrev pub ReadsIds : {A : Type 0} → Option (Bounds A) → Bool → Bool → List (List ℕ) → List (List ℕ)
+    → Option (IdSetUp A) → Type 0
+ReadsIds bounds by_another sets_up texts ranges (Some set) =
+    AllSay texts set.map × Accepted set.map × ReadsRanges by_another ranges (Some set.written.items)
+    × RunsIn bounds sets_up set
+ReadsIds bounds by_another sets_up texts ranges None = RefusesSpecs texts ⊎ RefusesRanges by_another ranges
 
 -- the rules that the text says, and how many are written
 abbrev pub ReadsText : {A : Type 0} → List ℕ → NamesSetUp A → Type 0
@@ -132,9 +161,9 @@ Translates guest = (guest.options.translate_uid.items ≢ []) ⊎ (guest.options
 
 -- what the options of the daemon of a guest set up
 pub record SetsUp {A : Type 0} (guest : Guest A) (set : SetUp A) : Type 0 where
-  pub users : ReadsIds (users_of guest) (is_bounded guest) (texts_of guest.options.translate_uid.items)
+  pub users : ReadsIds (users_of guest) (is_by_another guest) (is_bounded guest) (texts_of guest.options.translate_uid.items)
       (texts_of guest.options.uid_map.items) set.users
-  pub groups : ReadsIds (groups_of guest) (is_bounded guest) (texts_of guest.options.translate_gid.items)
+  pub groups : ReadsIds (groups_of guest) (is_by_another guest) (is_bounded guest) (texts_of guest.options.translate_gid.items)
       (texts_of guest.options.gid_map.items) set.groups
   pub names : ReadsNames guest.options.xattrmap set.names
   pub passes : set.passes ≡ passes guest

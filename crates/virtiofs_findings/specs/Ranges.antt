@@ -1,8 +1,9 @@
 -- The ranges of a daemon's namespace, and what is wrong with those of its options: the daemon gets no namespace with
 -- such a range.
-use Rattle.std.specs.Prelude.{◌≡◌, ◌⊎◌, ℕ, ◌+◌, ◌-◌, ◌<◌, ◌≤◌, Bool, true, false, ◌==◌, ◌&&◌, if◌then◌else◌, List, [], ◌∷◌, ◌++◌}
+use Rattle.std.specs.Prelude.{◌≡◌, ◌⊎◌, ℕ, ◌+◌, ◌-◌, ◌<◌, ◌≤◌, Bool, true, false, not, min, ◌==◌, ◌&&◌, if◌then◌else◌, List, [], ◌∷◌, ◌++◌}
 use Rattle.std.specs.Prelude.{codes, find, flat_map, length, nat_le, nat_lt, take, slice_get, Option, Some, None, MatchOption, option_map}
 use Rattle.std.specs.Fmt.{decimal}
+use Rattle.std.specs.List.{list_any}
 use Rattle.std.specs.Option.{option_and_then, option_map_or}
 use Rattle.virtiofs_map.specs.Mapping.{InRange}
 use Rattle.virtiofs_map.specs.declared.idmap.UidMap.{UidMap}
@@ -109,16 +110,83 @@ set_up_ranges true own [] = alone own ∷ []
 set_up_ranges false own [] = []
 set_up_ranges sets_up own (range ∷ written) = range ∷ written
 
--- the ranges of the namespace that the daemon runs in: those that the kernel shows, but in that of the host, of who can
--- act as one id alone, that id; or else those that it sets up
-abbrev pub ranges_of : {A : Type 0} → Option (Bounds A) → Bool → List UidMap → List UidMap
-ranges_of bounds sets_up written =
+-- those that the kernel shows, but in the namespace of the host, of who can act as one id alone, that id; or else those
+-- that the daemon sets up
+abbrev pub ranges_of_all : {A : Type 0} → Option (Bounds A) → Bool → List UidMap → List UidMap
+ranges_of_all bounds sets_up written =
     option_map_or (λ shown. set_up_ranges (is_alone bounds) (own_of bounds) (but_host shown)) (shown_of bounds)
     (set_up_ranges sets_up (own_of bounds) written)
 
 -- the range has that id inside
 abbrev pub has : UidMap → ℕ → Bool
 has range n = nat_le range.inside_uid n && nat_lt n (range.inside_uid + range.count)
+
+-- the range has that id outside
+abbrev pub has_outside : UidMap → ℕ → Bool
+has_outside range n = nat_le range.outside_uid n && nat_lt n (range.outside_uid + range.count)
+
+-- one of the ranges has it inside, or outside
+abbrev pub some_has : List UidMap → ℕ → Bool
+some_has ranges n = list_any (λ range. has range n) ranges
+
+abbrev pub some_has_outside : List UidMap → ℕ → Bool
+some_has_outside ranges n = list_any (λ range. has_outside range n) ranges
+
+-- the id that the daemon runs as, if that is said
+abbrev pub said_own : {A : Type 0} → Option (Bounds A) → Option ℕ
+said_own bounds = option_map (λ it. it.own) bounds
+
+-- as far as is said, the daemon is none of the ids of these ranges: neither 0, which it becomes where it can, nor the one
+-- that it runs as. Linux then shows it its own id as 65534
+abbrev pub is_outside : Option ℕ → List UidMap → Bool
+is_outside None ranges = not (some_has ranges 0)
+is_outside (Some own) ranges = not (some_has ranges 0) && not (some_has_outside ranges own)
+
+-- what the range has below 65534, and above
+abbrev pub below_overflow : UidMap → UidMap
+below_overflow range =
+    record { inside_uid = range.inside_uid; outside_uid = range.outside_uid; count = 65534 - range.inside_uid }
+
+abbrev pub above_overflow : UidMap → UidMap
+above_overflow range = record {
+  inside_uid = 65535;
+  outside_uid = min (range.outside_uid + (65535 - range.inside_uid)) 4294967295;
+  count = range.count - (65535 - range.inside_uid);
+}
+
+-- the range, if it has an id
+abbrev pub if_some : UidMap → List UidMap
+if_some range = if range.count == 0 then [] else range ∷ []
+
+-- the range without 65534: also one of that id alone leaves a range, since a list of none means all ids of the host
+abbrev pub but_overflow : UidMap → List UidMap
+but_overflow range =
+    if has range 65534 then below_overflow range ∷ if_some (above_overflow range) else range ∷ []
+
+-- the ranges by which the daemon can act as an id inside: of one that takes 65534 for itself, those without it
+abbrev pub acting_ranges : Option ℕ → List UidMap → List UidMap
+acting_ranges own ranges = if is_outside own ranges then flat_map but_overflow ranges else ranges
+
+-- the ranges of the namespace that the daemon runs in
+abbrev pub ranges_of : {A : Type 0} → Option (Bounds A) → Bool → List UidMap → List UidMap
+ranges_of bounds sets_up written = acting_ranges (said_own bounds) (ranges_of_all bounds sets_up written)
+
+-- the ranges of the options as virtiofsd takes them: of a single one with the id that it runs as, a COUNT of 0 is one of 1
+abbrev pub is_own : Option ℕ → ℕ → Bool
+is_own None id = false
+is_own (Some own) id = own == id
+
+abbrev pub as_taken : Option ℕ → UidMap → UidMap
+as_taken own range = record {
+  inside_uid = range.inside_uid;
+  outside_uid = range.outside_uid;
+  count = if is_own own range.outside_uid && range.count == 0 then 1 else range.count;
+}
+
+abbrev pub taken : Option ℕ → List UidMap → List UidMap
+taken own [] = []
+taken own (range ∷ []) = as_taken own range ∷ []
+taken own (range ∷ other ∷ written) = range ∷ other ∷ written
 
 -- the id outside of an id inside, by the first of the ranges that has it
 abbrev pub outside_of : List UidMap → ℕ → Option ℕ

@@ -1,5 +1,5 @@
 -- Which texts are refused, and what is told of them.
-use Rattle.std.specs.Prelude.{◌≡◌, ◌⊎◌, ℕ, List, [], ◌∷◌, ◌++◌, take, slice_get, string_bytes, IsSomeAnd}
+use Rattle.std.specs.Prelude.{◌≡◌, ◌⊎◌, ℕ, Bool, List, [], ◌∷◌, ◌++◌, take, slice_get, string_bytes, IsSomeAnd}
 use Rattle.std.specs.Prelude.{Option, Some, None}
 use Rattle.std.specs.Borrow.{Bor}
 use Rattle.std.specs.List.{AllZip}
@@ -12,13 +12,13 @@ use Rattle.virtiofs_map.specs.Specifications.{texts_of, SpecsFault, Unread, Unbu
 use Rattle.virtiofs_map.specs.declared.idmap.UidMap.{UidMap}
 use Rattle.virtiofs_map.specs.declared.soft_idmap.errors.IdMapBuildError.{IdMapBuildError}
 use Rattle.virtiofs_map.specs.declared.xattrmap.errors.Error.{Error}
-use Rattle.virtiofs_findings.specs.Guests.{SaysRange, RefusesSpecs, RefusesRanges, RefusesRules, IsRefused}
+use Rattle.virtiofs_findings.specs.Guests.{SaysRange, HasNoRange, LeaveUnknown, RefusesSpecs, RefusesRules, IsRefused, is_by_another}
 use Rattle.virtiofs_findings.specs.Lists.{AnyTwoHave}
 use Rattle.virtiofs_findings.specs.declared.guest.Guest.{Guest}
 use Rattle.virtiofs_findings.specs.declared.ids.kind.IdKind.{IdKind}
 use Rattle.virtiofs_findings.specs.declared.ids.kind.IdKind.TheVariants.{Users, Groups}
 use Rattle.virtiofs_findings.specs.declared.refusal.Refused.{Refused}
-use Rattle.virtiofs_findings.specs.declared.refusal.Refused.TheVariants.{Spec, Range, Rules}
+use Rattle.virtiofs_findings.specs.declared.refusal.Refused.TheVariants.{Spec, Range, Own, Rules}
 use Rattle.virtiofs_findings.specs.Findings.{Each}
 use Rattle.virtiofs_findings.specs.declared.refusal.Refusal.{Refusal}
 use Rattle.virtiofs_findings.specs.declared.setup.SetUp.{SetUp}
@@ -74,19 +74,25 @@ pub record IsFirstNoRange (texts : List (List ℕ)) (place : ℕ) : Type 0 where
   pub say : AllZip SaysRange (take place texts) before
   pub here : IsSomeAnd (slice_get texts place) (λ text. (fault : NamespaceFault) × HasNamespaceFault text fault)
 
--- what is told of the texts of ranges: nothing where they are not refused, and else of the first that says none
-abbrev pub TellsRanges : {A : Type 0} → ℕ → IdKind → List (List ℕ) → List (Refusal A) → Type 0
-TellsRanges number kind texts told =
-    ((¬ RefusesRanges texts) × (told ≡ []))
+-- what is told of the texts of ranges: nothing where each says one, and else of the first that says none
+abbrev pub TellsNoRange : {A : Type 0} → ℕ → IdKind → List (List ℕ) → List (Refusal A) → Type 0
+TellsNoRange number kind texts told =
+    ((¬ HasNoRange texts) × (told ≡ []))
     ⊎ ((place : ℕ) × IsFirstNoRange texts place × TellsPlace number (Range kind place) told)
 
+-- the same; or that it is not known as which id the daemon acts
+abbrev pub TellsRanges : {A : Type 0} → ℕ → IdKind → Bool → List (List ℕ) → List (Refusal A) → Type 0
+TellsRanges number kind by_another texts told =
+    ((¬ LeaveUnknown by_another texts) × TellsNoRange number kind texts told)
+    ⊎ (LeaveUnknown by_another texts × TellsPlace number (Own kind) told)
+
 -- what is told of ids of a kind: first of the specifications, then of the ranges
-pub record TellsIds {A : Type 0} (number : ℕ) (kind : IdKind) (specs ranges : List (List ℕ)) (told : List (Refusal A)) :
-    Type 0 where
+pub record TellsIds {A : Type 0} (number : ℕ) (kind : IdKind) (by_another : Bool) (specs ranges : List (List ℕ))
+    (told : List (Refusal A)) : Type 0 where
   pub of_specs : List (Refusal A)
   pub of_ranges : List (Refusal A)
   pub tells_specs : TellsSpecs number kind specs of_specs
-  pub tells_ranges : TellsRanges number kind ranges of_ranges
+  pub tells_ranges : TellsRanges number kind by_another ranges of_ranges
   pub whole : told ≡ of_specs ++ of_ranges
 
 -- ---- rules
@@ -119,9 +125,9 @@ pub record TellsGuest {A : Type 0} (number : ℕ) (guest : Guest A) (told : List
   pub of_users : List (Refusal A)
   pub of_groups : List (Refusal A)
   pub of_names : List (Refusal A)
-  pub users : TellsIds number Users (texts_of guest.options.translate_uid.items)
+  pub users : TellsIds number Users (is_by_another guest) (texts_of guest.options.translate_uid.items)
       (texts_of guest.options.uid_map.items) of_users
-  pub groups : TellsIds number Groups (texts_of guest.options.translate_gid.items)
+  pub groups : TellsIds number Groups (is_by_another guest) (texts_of guest.options.translate_gid.items)
       (texts_of guest.options.gid_map.items) of_groups
   pub names : TellsNames number guest.options.xattrmap of_names
   pub whole : told ≡ of_users ++ of_groups ++ of_names

@@ -1,11 +1,11 @@
 //! Guests with the same options. What is said of one of them is true of all, and is said once.
 ghost use Rattle.std.specs.Prelude.{◌≡◌, ◌<◌, ◌++◌, ◌∷◌, [], List, ℕ, IfOk};
-ghost use Rattle.virtiofs_findings.specs.AlikeGuests.{are_both, is_same_runner, is_same_starter, have_same_options, have_same_texts, alike_of, alike_to, likes_of, is_first, is_second, is_told};
+ghost use Rattle.virtiofs_findings.specs.AlikeGuests.{are_both, is_same_by, is_same_runner, is_same_starter, have_same_options, have_same_texts, alike_of, alike_to, likes_of, is_first, is_second, is_told};
 
 use crate::guest::Guest;
 use std::alloc::{AllocError, Allocator};
 use virtiofs_host::runner::Runner;
-use virtiofs_options::starter::Starter;
+use virtiofs_options::starter::{By, Starter};
 
 /// The guests that have the same options as one of them.
 #[derive(Clone, Copy)]
@@ -26,15 +26,22 @@ fn are_both(one: bool, other: bool) -> bool
 }
 
 /// Whether the words before the daemon's say the same of both daemons.
-fn is_same_starter(one: Starter, other: Starter) -> bool
-    ensures { result ≡ is_same_starter one other }
+fn is_same_by(one: By, other: By) -> bool
+    ensures { result ≡ is_same_by one other }
 {
     match (one, other) {
-        (Starter::ByRoot, Starter::ByRoot) => true,
-        (Starter::ByOther, Starter::ByOther) => true,
-        (Starter::InNamespace, Starter::InNamespace) => true,
+        (By::Root, By::Root) => true,
+        (By::Another, By::Another) => true,
+        (By::InNamespace, By::InNamespace) => true,
         _ => false,
     }
+}
+
+/// The same, also by which name.
+fn is_same_starter(one: Starter<'_>, other: Starter<'_>) -> bool
+    ensures { result ≡ is_same_starter one.entry other.entry }
+{
+    is_same_by(one.by, other.by) && one.user == other.user
 }
 
 /// Whether two guests have one runner, or none is said of both.

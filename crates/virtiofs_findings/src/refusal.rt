@@ -3,7 +3,7 @@
 use crate::ids::kind::IdKind;
 use std::alloc::Allocator;
 
-/// Which text of the options of a guest is refused. Its place among the values of its option is counted
+/// Which text of the options of a guest is refused, or what is missing. Its place among the values of its option is counted
 /// from 0.
 #[derive(Clone, Copy)]
 pub enum Refused {
@@ -11,6 +11,8 @@ pub enum Refused {
     Spec(IdKind, usize),
     /// A range of the namespace, of `--uid-map` or `--gid-map`.
     Range(IdKind, usize),
+    /// No text: as which user, or as which group, the daemon acts is not known.
+    Own(IdKind),
     /// The rules for names, which are one text.
     Rules,
 }
@@ -22,6 +24,6 @@ pub struct Refusal<A: Allocator> {
     pub guest: usize,
     /// The text at fault.
     pub what: Refused,
-    /// Why it is refused, as the library says it.
+    /// Why it is refused, as the library says it; empty where no text is.
     pub why: String<A>,
 }

@@ -6,16 +6,16 @@ ghost use Rattle.virtiofs_map.specs.Build.{BuildFault, build_fault_of};
 ghost use Rattle.virtiofs_map.specs.RulesFault.{RulesFault, HasRulesFault, rules_fault_of};
 ghost use Rattle.virtiofs_map.specs.SpecificationText.{SpecificationFault, specification_fault_of};
 ghost use Rattle.std.specs.Option.{option_map};
-ghost use Rattle.virtiofs_findings.specs.Guests.{ReadsSpecs, ReadsRanges, ReadsIds, RunsIn, users_of, groups_of, process_of, has_ranges, has_namespaces, is_bounded, starter_of, no_start, no_start_of, RefusesRules, ReadsText, ReadsNames, SetsUp, Translates, passes};
+ghost use Rattle.virtiofs_findings.specs.Guests.{ReadsSpecs, SayRanges, ReadsRanges, ReadsIds, RunsIn, is_other, is_by_another, users_of, groups_of, process_of, has_ranges, has_namespaces, is_bounded, starter_of, no_start, no_start_of, RefusesRules, ReadsText, ReadsNames, SetsUp, Translates, passes};
 ghost use Rattle.virtiofs_map.specs.Printed.{build_error_text, rules_error_text};
 ghost use Rattle.virtiofs_findings.specs.Lists.{Adds};
-ghost use Rattle.virtiofs_findings.specs.Refusals.{IsAt, TellsPlace, TellsBuildFault, TellsSpecsFault, TellsSpecs, TellsRanges, TellsIds, TellsNames, TellsGuest};
+ghost use Rattle.virtiofs_findings.specs.Refusals.{IsAt, TellsPlace, TellsBuildFault, TellsSpecsFault, TellsSpecs, TellsNoRange, TellsRanges, TellsIds, TellsNames, TellsGuest};
 ghost use Rattle.virtiofs_map.specs.Specifications.{SpecsFault, specs_fault_of, texts_of};
 
 use crate::guest::Guest;
 use crate::ids::Ids;
 use crate::ids::kind::IdKind;
-use crate::ids::namespace::{differ, own_of, ranges_of};
+use crate::ids::namespace::{differ, own_of, ranges_of, said_own, taken};
 use crate::ids::ranges::{RangeFound, first_fault};
 use crate::refusal::{Refusal, Refused};
 use std::alloc::{AllocError, Allocator};
@@ -25,6 +25,7 @@ use virtiofs_map::idmap::UidMap;
 use virtiofs_map::soft_idmap::{IdMap, IdMapBuildError, SpecsError};
 use virtiofs_map::xattrmap::{Error, ErrorKind, XattrMap};
 use virtiofs_options::guest::Sandbox;
+use virtiofs_options::starter::By;
 
 /// What the options of a daemon set up for ids of one kind.
 #[derive(Drop)]
@@ -64,9 +65,9 @@ pub enum NoStart {
 /// What the options of the daemon of a guest set up.
 #[derive(Drop)]
 pub struct SetUp<A: Allocator> {
-    /// For users; `None` where a text for them is refused.
+    /// For users; `None` where a text for them is refused, or the daemon's own is not known.
     pub users: Option<IdSetUp<A>>,
-    /// For groups; `None` where a text for them is refused.
+    /// For groups; the same.
     pub groups: Option<IdSetUp<A>>,
     /// The rules for names; `None` where there are none, or where they are refused.
     pub names: Option<NamesSetUp<A>>,
@@ -199,17 +200,17 @@ fn read_specs<A: Allocator + Copy>(
     }
 }
 
-/// The ranges of a guest, or none where a text is refused.
-fn read_ranges<A: Allocator + Copy>(
+/// The ranges of a guest, or none where a text says no range.
+fn say_ranges<A: Allocator + Copy>(
     alloc: A,
     refusals: &mut Vec<Refusal<A>, A>,
     number: usize,
     kind: IdKind,
     texts: &[&str],
 ) -> Result<Option<Vec<UidMap, A>>, AllocError>
-    ensures read { IfOk result (λ ranges. ReadsRanges (texts_of texts.now)
+    ensures read { IfOk result (λ ranges. SayRanges (texts_of texts.now)
         (option_map (λ all. all.items) ranges)) }
-    ensures says { OnOk result (Adds (TellsRanges number kind (texts_of texts.now))
+    ensures says { OnOk result (Adds (TellsNoRange number kind (texts_of texts.now))
         refusals.old.items refusals.new.items) }
 {
     let mut ranges = Vec::new(alloc);
@@ -226,6 +227,28 @@ fn read_ranges<A: Allocator + Copy>(
     Ok(Some(ranges))
 }
 
+/// The ranges of a guest, or none where a text says no range, or it has none and it is not known as which
+/// id the daemon acts.
+fn read_ranges<A: Allocator + Copy>(
+    alloc: A,
+    refusals: &mut Vec<Refusal<A>, A>,
+    number: usize,
+    kind: IdKind,
+    by_another: bool,
+    texts: &[&str],
+) -> Result<Option<Vec<UidMap, A>>, AllocError>
+    ensures read { IfOk result (λ ranges. ReadsRanges by_another (texts_of texts.now)
+        (option_map (λ all. all.items) ranges)) }
+    ensures says { OnOk result (Adds (TellsRanges number kind by_another (texts_of texts.now))
+        refusals.old.items refusals.new.items) }
+{
+    if by_another && texts.is_empty() {
+        tell(refusals, number, Refused::Own(kind), String::new(alloc))?;
+        return Ok(None);
+    }
+    say_ranges(alloc, refusals, number, kind, texts)
+}
+
 /// The set-up of specifications, and of ranges that are read.
 fn in_namespace<A: Allocator + Copy>(
     alloc: A,
@@ -238,9 +261,10 @@ fn in_namespace<A: Allocator + Copy>(
     ensures written { IfOk result (λ set. set.written.items ≡ written.items) }
     ensures runs { IfOk result (RunsIn (option_map (λ it. it.now) bounds.entry) sets_up) }
 {
-    let fault = first_fault(alloc, bounds, written.as_slice())?;
-    let differs = differ(bounds, written.as_slice());
-    let ranges = ranges_of(alloc, bounds, sets_up, written.as_slice())?;
+    let taken = taken(alloc, said_own(bounds), written.as_slice())?;
+    let fault = first_fault(alloc, bounds, taken.as_slice())?;
+    let differs = differ(bounds, taken.as_slice());
+    let ranges = ranges_of(alloc, bounds, sets_up, taken.as_slice())?;
     Ok(IdSetUp {
         map,
         written,
@@ -257,19 +281,23 @@ fn read_ids<A: Allocator + Copy>(
     number: usize,
     kind: IdKind,
     bounds: Option<&Bounds<A>>,
+    by_another: bool,
     sets_up: bool,
     specs: &[&str],
     ranges: &[&str],
 ) -> Result<Option<IdSetUp<A>>, AllocError>
-    ensures read { IfOk result (ReadsIds (option_map (λ it. it.now) bounds.entry) sets_up
-        (texts_of specs.now) (texts_of ranges.now)) }
+    ensures read { IfOk result (ReadsIds (option_map (λ it. it.now) bounds.entry) by_another
+        sets_up (texts_of specs.now) (texts_of ranges.now)) }
     ensures says { OnOk result (Adds
-        (TellsIds number kind (texts_of specs.now) (texts_of ranges.now))
+        (TellsIds number kind by_another (texts_of specs.now) (texts_of ranges.now))
         refusals.old.items refusals.new.items) }
 {
     let map = read_specs(alloc, refusals, number, kind, specs)?;
-    let ranges = read_ranges(alloc, refusals, number, kind, ranges)?;
-    let (Some(map), Some(written)) = (map, ranges) else {
+    let ranges = read_ranges(alloc, refusals, number, kind, by_another, ranges)?;
+    let Some(map) = map else {
+        return Ok(None);
+    };
+    let Some(written) = ranges else {
         return Ok(None);
     };
     Ok(Some(in_namespace(alloc, bounds, sets_up, map, written)?))
@@ -419,6 +447,20 @@ fn is_bounded<A: Allocator + Copy>(guest: &Guest<'_, A>) -> bool
     has_namespaces(guest) && has_ranges(guest) || own_of(users_of(guest)) > 0
 }
 
+/// Whether words say that another user than root starts a daemon.
+fn is_other(by: By) -> bool
+    ensures { result ≡ is_other by }
+{
+    matches!(by, By::Another)
+}
+
+/// Whether another user than root starts the daemon of a guest, of whom it is not said who it is.
+fn is_by_another<A: Allocator>(guest: &Guest<'_, A>) -> bool
+    ensures { result ≡ is_by_another guest.now }
+{
+    guest.runner.is_none() && (is_other(guest.options.starter.by) || has_ranges(guest))
+}
+
 /// The user who starts the daemon of a guest, if that is said.
 fn starter_of<A: Allocator>(guest: &Guest<'_, A>) -> Option<u32>
     ensures { result ≡ starter_of guest.now }
@@ -473,6 +515,7 @@ pub(crate) fn set_up<A: Allocator + Copy>(
         number,
         IdKind::Users,
         users_of(guest),
+        is_by_another(guest),
         is_bounded(guest),
         guest.options.translate_uid.as_slice(),
         guest.options.uid_map.as_slice(),
@@ -483,6 +526,7 @@ pub(crate) fn set_up<A: Allocator + Copy>(
         number,
         IdKind::Groups,
         groups_of(guest),
+        is_by_another(guest),
         is_bounded(guest),
         guest.options.translate_gid.as_slice(),
         guest.options.gid_map.as_slice(),

@@ -1,6 +1,5 @@
 -- Texts that are cut at a byte.
-use Rattle.std.proofs.Common.{◌≡◌, ◌≢◌, ℕ, ◌+◌, ◌-◌, ◌<◌, eqb, List, [], ◌∷◌, ◌++◌, length, take, drop, get_or, false, All}
-use Rattle.std.proofs.Common.{refl, sym, ap, ◌∙◌, arith}
+use Rattle.std.proofs.Common.{◌≡◌, ◌≢◌, ℕ, ◌+◌, ◌-◌, ◌<◌, eqb, List, [], ◌∷◌, ◌++◌, length, take, drop, get_or, false, All, refl, ap, ◌∙◌, arith}
 use Rattle.std.proofs.lemmas.Bool.Decides.{nat_tests}
 use Rattle.std.proofs.lemmas.List.{take-append-drop, drop_more, get_or-take, length-take, take_rest}
 use Rattle.std.proofs.lemmas.List.Elements.{All-from_get_or, All-weaker, recursion_from_All}
@@ -12,19 +11,12 @@ pub Lacks-not : (c : ℕ) (a x : List ℕ) → Lacks c (a ++ c ∷ x) → ⊥
 Lacks-not c [] x lacks = lacks.0 refl
 Lacks-not c (b ∷ bs) x lacks = Lacks-not c bs x lacks.1
 
-cons_same : (d e : ℕ) (ds es : List ℕ) → d ≡ e → ds ≡ es → d ∷ ds ≡ e ∷ es
-cons_same d e ds es first rest = cc
-
 -- a text has one first byte c
 pub cut_one : (c : ℕ) (a b x y : List ℕ) → a ++ c ∷ x ≡ b ++ c ∷ y → Lacks c a → Lacks c b → (a ≡ b) × (x ≡ y)
 cut_one c [] [] x y same left right = (refl, cc)
 cut_one c [] (d ∷ ds) x y same left right = let first : d ≡ c = cc in absurd (right.0 first)
 cut_one c (d ∷ ds) [] x y same left right = let first : d ≡ c = cc in absurd (left.0 first)
-cut_one c (d ∷ ds) (e ∷ es) x y same left right =
-    let heads : d ≡ e = cc in
-    let tails : ds ++ c ∷ x ≡ es ++ c ∷ y = cc in
-    let others = cut_one c ds es x y tails left.1 right.1 in
-    (cons_same d e ds es heads others.0, others.1)
+cut_one c (d ∷ ds) (e ∷ es) x y same left right = grind (arith, cut_one c ds es x y)
 
 -- bytes that are not c, as a test
 passes_not : (c : ℕ) (xs : List ℕ) → All (λ b. b ≢ c) xs → All (λ b. eqb b c ≡ false) xs
@@ -37,13 +29,12 @@ whole_lacks c text none = recursion_from_All (λ b. b ≢ c) text (All-from_get_
 pub whole_part : (c : ℕ) (text : List ℕ) → ((k : ℕ) → k < length text → get_or text k 0 ≢ c)
     → split_at_each c text ≡ text ∷ []
 whole_part c text none =
-    slice_split_none (λ b. eqb b c) text (passes_not c text (All-from_get_or (λ b. b ≢ c) text 0 none))
+    slice_split_none (λ b. eqb b c) text (passes_not _ _ (All-from_get_or (λ b. b ≢ c) text 0 none))
 
 before : (c : ℕ) (text : List ℕ) (place : ℕ) → ((k : ℕ) → k < place → get_or text k 0 ≢ c)
     → All (λ b. b ≢ c) (take place text)
-before c text place none =
-    All-from_get_or (λ b. b ≢ c) (take place text) 0
-    (λ i below. let less : i < place = omega (arith, below, length-take place text) in rw get_or-take (none i less))
+before c text place none = All-from_get_or (λ b. b ≢ c) (take place text) 0
+    (grind (arith, length-take, get_or-take))
 
 -- a text whose first byte c stands at that place
 pub front_lacks : (c : ℕ) (text : List ℕ) (place : ℕ) → ((k : ℕ) → k < place → get_or text k 0 ≢ c)
@@ -52,17 +43,11 @@ front_lacks c text place none = recursion_from_All (λ b. b ≢ c) (take place t
 
 pub cut_whole : (c : ℕ) (text : List ℕ) (place : ℕ) → place < length text → get_or text place 0 ≡ c
     → text ≡ take place text ++ c ∷ take (length text - (place + 1)) (drop (place + 1) text)
-cut_whole c text place below here =
-    sym (take-append-drop place text)
-    ∙ ap (λ t. take place text ++ t) (drop_more text place 0 below
-    ∙ ap (λ b. b ∷ drop (place + 1) text) here
-    ∙ ap (λ t. c ∷ t) (sym (take_rest text (place + 1))))
+cut_whole c text place below here = grind (arith, take-append-drop, drop_more, take_rest)
 
 pub cut_parts : (c : ℕ) (text : List ℕ) (place : ℕ) → place < length text → get_or text place 0 ≡ c
     → ((k : ℕ) → k < place → get_or text k 0 ≢ c)
     → split_at_each c text
     ≡ take place text ∷ split_at_each c (take (length text - (place + 1)) (drop (place + 1) text))
-cut_parts c text place below here none =
-    ap (split_at_each c) (cut_whole c text place below here)
-    ∙ slice_split_at (λ b. eqb b c) (take place text) c _ (passes_not c (take place text) (before c text place none))
-    (grind (arith, nat_tests))
+cut_parts c text place below here none = ap (split_at_each c) (cut_whole c text place below here)
+    ∙ slice_split_at (λ b. eqb b c) (take place text) c _ (grind (arith, passes_not, before)) (grind (arith, nat_tests))

@@ -1,5 +1,5 @@
 -- Lines that say something, and lines that say nothing, one after another.
-use Rattle.std.proofs.Common.{◌≡◌, ℕ, List, [], ◌∷◌, ◌++◌, Option, Some, refl, sym, subst, append_assoc}
+use Rattle.std.proofs.Common.{arith, ◌≡◌, ℕ, List, [], ◌∷◌, ◌++◌, Option, Some, refl, sym, subst, append_assoc}
 use Rattle.std.proofs.lemmas.List.{append-nil}
 use Rattle.virtiofs_host.specs.Lines.{AllSaid, FirstSaid}
 
@@ -13,14 +13,13 @@ pub said_more : {V : Type 0} (Says : List ℕ → V → Type 0) (all left more :
     → SaidSoFar Says all more (values ++ value ∷ [])
 said_more {V} Says all left more line values value is so_far says others said =
     let here : AllSaid Says (line ∷ more) (value ∷ others) = (Some value, says, (others, refl, said)) in
-    subst (AllSaid Says all) (sym (append_assoc values (value ∷ []) others))
-    (so_far (value ∷ others) (subst (λ (it : List (List ℕ)). AllSaid Says it (value ∷ others)) (sym is) here))
+    subst (AllSaid Says all) (sym (append_assoc values (value ∷ []) others)) (grind arith)
 
 -- no line is left
 pub all_said : {V : Type 0} (Says : List ℕ → V → Type 0) (all left : List (List ℕ)) (values : List V) → left ≡ []
     → SaidSoFar Says all left values → AllSaid Says all values
 all_said Says all left values none so_far =
-    let here : AllSaid Says left [] = subst (λ (it : List (List ℕ)). AllSaid Says it []) (sym none) refl in
+    let here : AllSaid Says left [] = grind arith in
     subst (AllSaid Says all) (append-nil values) (so_far [] here)
 
 -- what the first line says that is left, is what the first of all lines says

@@ -168,7 +168,6 @@ module _ (others : List IdMap) (images again : List Span) (are : AreImages other
     (all : (id : ℕ) → Hold again id ↔ (2 ≤ times images id + once_below 4294967296 id)) where
   pub Hold-reached : (id : ℕ) → Hold again id → ReachedBy others id
   Hold-reached id held =
-      let twice = (all id).0 held in
       let (n, from, within, goes) = (are.counts id).one.0 (grind (arith, nat_tests)) in
       (n, goes)
 
@@ -192,6 +191,5 @@ pub reached_all : {A E : Type 0} (r : Result (Vec Span A) E) (specs : List IdMap
     → AreImages specs images
     → IfOk r (λ again. (id : ℕ) → Hold again.items id ↔ (2 ≤ times images id + once_below 4294967296 id))
     → IfOk r (λ again. (host : ℕ) → Hold again.items host ↔ ReachedBy specs host)
-reached_all (Ok again) specs images are all =
-    λ host. (Hold-reached specs images again.items are all host, reached-Hold specs images again.items are all host)
+reached_all (Ok again) specs images are all = search (rules, Hold-reached, reached-Hold)
 reached_all (Err e) specs images are all = tt

@@ -14,7 +14,7 @@ use Rattle.virtiofs_map.specs.declared.soft_idmap.entry.Direction.TheVariants.{G
 use Rattle.virtiofs_map.specs.declared.soft_idmap.entry.Entry.{Entry}
 use Rattle.virtiofs_map.specs.declared.soft_idmap.piece.Piece.{Piece}
 use Rattle.virtiofs_id_audit.proofs.PieceLemmas.{value-each, value-not_each, value-forbidden}
-use Rattle.virtiofs_map.proofs.ForCallers.{lookup_one_value, KeepsGreatest-accepted}
+use Rattle.virtiofs_map.proofs.ForCallers.{lookup_one_value}
 
 -- ---- ids of the host
 
@@ -51,7 +51,6 @@ ReturnsBy-all specs there back trip n host to stretch back_stretch first back_fi
     let low : n ≤ k = omega (arith, made.first_is) in
     let high : k ≤ there.last = omega (arith, made.last_is) in
     let (two, value) = value-not_each there host all start stretch.named in
-    let order : back.first ≤ back.last = back_stretch.order in
     returned specs there back k host (value_in trip k) stretch back_stretch (omega arith) high (value k) (omega arith)
     (omega arith) (made.value k low high ∙ back_start ∙ ap (λ (h : ℕ). value_in back h) back_first)
 
@@ -108,9 +107,7 @@ pub IsAstray-moved : (specs : List IdMap) (trip : Piece) (n : ℕ) → Accepted 
     → n < 4294967295 → IsMoved trip n → IsAstray specs n
 IsAstray-moved specs trip n accepted returns is_id moved = astray (returns n moved.from moved.to) where
   astray : ComesBackAs specs n (value_in trip n) → IsAstray specs n
-  astray (inl (forbidden, none)) =
-      let both : Some moved.value ≡ None = sym moved.becomes ∙ none in
-      absurd (cc)
+  astray (inl (forbidden, none)) = search (rules, moved)
   astray (inr (host, goes, back)) = record {
     host = host;
     goes = record { is_id = is_id; becomes = goes };
@@ -151,17 +148,14 @@ ComeBackBelow-more specs trip next more accepted so_far returns first end none n
 -- the greatest number does not move
 IsMoved-below : (specs : List IdMap) (trip : Piece) (n : ℕ) → Accepted specs → ReturnsBy specs trip
     → trip.last ≤ 4294967295 → IsMoved trip n → n < 4294967295
-IsMoved-below specs trip n accepted returns within moved =
-    search (rules, cases_lt, same_Some, lookup_one_value, KeepsGreatest-accepted)
+IsMoved-below specs trip n accepted returns within moved = search rules
 
 -- the least number that moves is the least id that is astray
 pub IsAstray-least : (specs : List IdMap) (trip : Piece) (next n : ℕ) → Accepted specs → ComeBackBelow specs next
     → ReturnsBy specs trip → trip.first ≡ next → trip.last ≤ 4294967295 → IsLeastId (IsMoved trip) n
     → IsLeastId (IsAstray specs) n
 IsAstray-least specs trip next n accepted so_far returns first within least = record {
-  is_bad =
-      IsAstray-moved specs trip n accepted returns (IsMoved-below specs trip n accepted returns within least.is_bad)
-      least.is_bad;
+  is_bad = search (rules, IsAstray-moved, IsMoved-below);
   none_before = λ m before astray.
       elim (cases_lt m next) [
         | inl below ↦ astray.not_back (so_far m astray.host below astray.goes)

@@ -1,6 +1,6 @@
 -- The least id of the guest that becomes an id in one of some spans.
-use Rattle.std.proofs.Common.{◌≡◌, inl, inr, ◌⊎◌, ℕ, ◌+◌, ◌-◌, ◌<◌, ◌≤◌, max, true, false, ltb, List, length, get_or}
-use Rattle.std.proofs.Common.{Some, None, sym, ◌∙◌, arith, rules}
+use Rattle.std.proofs.Common.{◌≡◌, inl, inr, ℕ, ◌+◌, ◌-◌, ◌<◌, ◌≤◌, max, true, false, ltb, List, length, get_or, Some}
+use Rattle.std.proofs.Common.{None, sym, ◌∙◌, arith, rules}
 use Rattle.std.specs.List.Sorted.{IsPartitionPoint}
 use Rattle.std.proofs.lemmas.Bool.{cases_lt}
 use Rattle.std.proofs.lemmas.Bool.Decides.{nat_tests}
@@ -41,29 +41,21 @@ pub held_at : (spans : List Span) (first at : ℕ) (d : Span) → AreInOrder spa
     → ((get_or spans at d).first ≤ (get_or spans at d).last) × (first ≤ (get_or spans at d).last)
 held_at spans first at d order splits inside = search (rules, nat_tests)
 
+-- the greater of first and the first id of the span there, unless it is above last
 pub least-there : (spans : List Span) (first last at least : ℕ) (span : Span) → AreInOrder spans
-    → SplitsAt spans first at → at < length spans → get_or spans at span ≡ span → first ≤ least → span.first ≤ least
-    → (least ≡ first) ⊎ (least ≡ span.first) → least ≤ last
-    → IsLeastIfAny (λ id. Between first last id × Hold spans id) (Some least)
-least-there spans first last at least span order splits inside here from begins is within =
-    let (some, ends) = rw here at (held_at spans first at span order splits inside) in
-    record {
-      is_bad = ((from, within), (span, (at, inside, here), (begins, omega (arith, is))));
-      none_before = λ id before ((from', to'), held).
-          omega (arith, is, rw here at (held_after spans first at id span order splits from' held).1);
-    }
-
-pub least-beyond : (spans : List Span) (first last at least : ℕ) (span : Span) → AreInOrder spans
-    → SplitsAt spans first at → at < length spans → get_or spans at span ≡ span → (least ≡ first) ⊎ (least ≡ span.first)
-    → last < least → first ≤ least → span.first ≤ least
-    → IsLeastIfAny (λ id. Between first last id × Hold spans id) None
-least-beyond spans first last at least span order splits inside here is above from begins id
-    ((from', to'), held) =
-    omega (arith, is, rw here at (held_after spans first at id span order splits from' held).1)
-
--- the greater of two numbers is one of them
-pub greater_is : (begins first least : ℕ) → least ≡ max begins first → (least ≡ first) ⊎ (least ≡ begins)
-greater_is begins first least is = search (rules, cases_lt)
+    → SplitsAt spans first at → at < length spans → get_or spans at span ≡ span → least ≡ max span.first first
+    → (least ≤ last → IsLeastIfAny (λ id. Between first last id × Hold spans id) (Some least))
+    × (last < least → IsLeastIfAny (λ id. Between first last id × Hold spans id) None)
+least-there spans first last at least span order splits inside here is =
+    let ends = rw here at (held_at spans first at span order splits inside) in
+    let low : (id : ℕ) → first ≤ id → Hold spans id → least ≤ id = λ id from held.
+    omega (arith, rw here at (held_after spans first at id span order splits from held).1) in (
+      λ within. record {
+        is_bad = ((omega arith, within), (span, (at, inside, here), (omega arith, omega (arith, ends))));
+        none_before = λ id before ((from, to), held). omega (arith, low id from held);
+      },
+      λ above id ((from, to), held). omega (arith, low id from held),
+    )
 
 -- ---- the least number of a piece
 

@@ -1,18 +1,18 @@
 -- What a map makes of a name, by the prefix that is added to it or cut off it.
 use Rattle.std.proofs.Common.{◌≡◌, get_or, ◌≢◌, ℕ, ◌<◌, Bool, true, false, List, [], ◌∷◌, ◌++◌, length, drop, Option}
-use Rattle.std.proofs.Common.{Some, None, ◌⊎◌, inl, inr, refl, sym, ap, ◌∙◌, subst, arith, cond, ◌&&◌, rules}
-use Rattle.std.specs.List.{All, cons_option, find}
+use Rattle.std.proofs.Common.{Some, None, ◌⊎◌, inl, inr, refl, sym, ◌∙◌, arith, rules}
+use Rattle.std.specs.List.{All, find}
 use Rattle.std.specs.Option.{option_map_or, option_and_then, is_none}
-use Rattle.std.proofs.lemmas.Bool.{and_parts, cond_both, false≢true}
+use Rattle.std.proofs.lemmas.Bool.{and_parts, cond_both}
 use Rattle.std.proofs.lemmas.List.{append-nil}
 use Rattle.std.proofs.lemmas.List.Elements.{All-nil, All-head, All-tail, All-from_get_or}
 use Rattle.virtiofs_map.specs.AuditParts.{added_prefix, is_hidden}
-use Rattle.virtiofs_map.specs.GatheredParts.{added_prefix_by, added_prefix_of}
+use Rattle.virtiofs_map.specs.GatheredParts.{added_prefix_of}
 use Rattle.virtiofs_map.specs.MapRule.{IsName}
 use Rattle.virtiofs_map.specs.Names.{begins, fits, deciding, Passes, IsUnterminated, answer_by, client_answer}
 use Rattle.virtiofs_map.specs.Names.{HostAnswer, IsListed, IsHidden, IsUndecided, host_answer_by, host_answer}
-use Rattle.virtiofs_map.specs.Names.{is_decided, listed_name, names, as_list, server_answer}
-use Rattle.virtiofs_map.specs.Rule.{RuleType, Prefix, Okay, Bad, Unsupported, MappingRule, HasNoZero}
+use Rattle.virtiofs_map.specs.Names.{names, server_answer}
+use Rattle.virtiofs_map.specs.Rule.{Prefix, Okay, MappingRule, HasNoZero}
 use Rattle.virtiofs_map.specs.declared.xattrmap.scopes.Side.{Side}
 use Rattle.virtiofs_map.specs.declared.xattrmap.scopes.Side.TheVariants.{Client, Server}
 use Rattle.virtiofs_map.proofs.BeginsLemmas.{deciding_fits, deciding-find}
@@ -20,8 +20,7 @@ use Rattle.virtiofs_map.proofs.MapRuleLemmas.{names_of_one, some_name}
 use Rattle.virtiofs_map.proofs.NoZeroLemmas.{IsNotZero}
 
 pub none_is : {X : Type 0} (o : Option X) → ((x : X) → o ≡ Some x → ⊥) → o ≡ None
-none_is None fails = refl
-none_is (Some x) fails = absurd (fails x refl)
+none_is o fails = grind arith
 
 -- ---- the rule that adds a prefix
 
@@ -31,18 +30,9 @@ pub record AddsBy (o : Option MappingRule) (added : List ℕ) : Type 0 where
   pub puts : added_prefix_of rule ≡ Some added
   pub how : ((rule.kind ≡ Okay) × (added ≡ [])) ⊎ ((rule.kind ≡ Prefix) × (added ≡ rule.prepend))
 
-adds_by_kind : (kind : RuleType) (prepend added : List ℕ) → added_prefix_by kind prepend ≡ Some added
-    → ((kind ≡ Okay) × (added ≡ [])) ⊎ ((kind ≡ Prefix) × (added ≡ prepend))
-adds_by_kind Okay prepend added e = inl (refl, (cc))
-adds_by_kind Prefix prepend added e = inr (refl, (cc))
-adds_by_kind Bad prepend added e = absurd (cc)
-adds_by_kind Unsupported prepend added e = absurd (cc)
-
 pub adds_by : (o : Option MappingRule) (added : List ℕ) → option_and_then added_prefix_of o ≡ Some added
     → AddsBy o added
-adds_by None added e = absurd (cc)
-adds_by (Some rule) added e =
-    record { rule = rule; decides = refl; puts = e; how = adds_by_kind rule.kind rule.prepend added e }
+adds_by o added e = grind arith
 
 -- ---- names of the guest
 
@@ -51,14 +41,10 @@ pub record PassesBy (o : Option MappingRule) (name host : List ℕ) : Type 0 whe
   pub is : option_and_then added_prefix_of o ≡ Some added
   pub host_is : host ≡ added ++ name
 
-passes_by_kind : (kind : RuleType) (prepend name host : List ℕ) → answer_by kind prepend name ≡ Passes host
-    → (added : List ℕ) × (added_prefix_by kind prepend ≡ Some added) × (host ≡ added ++ name)
-passes_by_kind kind prepend name host e = grind arith
-
 passes_by : (o : Option MappingRule) (name host : List ℕ)
     → option_map_or (λ rule. answer_by rule.kind rule.prepend name) o IsUnterminated ≡ Passes host
     → PassesBy o name host
-passes_by o name host e = grind (arith, passes_by_kind)
+passes_by o name host e = grind arith
 
 pub passes_added : (rules : List MappingRule) (name host : List ℕ) → client_answer rules name ≡ Passes host
     → PassesBy (deciding Client rules name) name host
@@ -66,9 +52,7 @@ passes_added rules name host e = passes_by (deciding Client rules name) name hos
 
 pub added_passes : (rules : List MappingRule) (name added : List ℕ) → added_prefix Client rules name ≡ Some added
     → client_answer rules name ≡ Passes (added ++ name)
-added_passes rules name added e =
-    let by = adds_by (deciding Client rules name) added e in
-    rw by.decides (elim by.how [ inl w ↦ rw (w.0, w.1) refl | inr w ↦ rw (w.0, ← w.1) refl ])
+added_passes rules name added e = grind (arith, adds_by)
 
 -- ---- names of the host
 
@@ -77,24 +61,13 @@ pub record ListedBy (o : Option MappingRule) (host name : List ℕ) : Type 0 whe
   pub is : option_and_then added_prefix_of o ≡ Some cut
   pub name_is : name ≡ drop (length cut) host
 
-listed_by_kind : (kind : RuleType) (prepend host name : List ℕ) → host_answer_by kind prepend host ≡ IsListed name
-    → (cut : List ℕ) × (added_prefix_by kind prepend ≡ Some cut) × (name ≡ drop (length cut) host)
-listed_by_kind kind prepend host name e = grind arith
-
-listed_by : (o : Option MappingRule) (host name : List ℕ)
-    → option_map_or (λ rule. host_answer_by rule.kind rule.prepend host) o IsUndecided ≡ IsListed name
-    → ListedBy o host name
-listed_by o host name e = grind (arith, listed_by_kind)
-
 pub listed_cut : (rules : List MappingRule) (host name : List ℕ) → host_answer rules host ≡ IsListed name
     → ListedBy (deciding Server rules host) host name
-listed_cut rules host name e = listed_by (deciding Server rules host) host name e
+listed_cut rules host name e = grind arith
 
 pub cut_listed : (rules : List MappingRule) (host cut : List ℕ) → added_prefix Server rules host ≡ Some cut
     → host_answer rules host ≡ IsListed (drop (length cut) host)
-cut_listed rules host cut e =
-    let by = adds_by (deciding Server rules host) cut e in
-    rw by.decides (elim by.how [ inl w ↦ rw (w.0, w.1) refl | inr w ↦ rw (w.0, ← w.1) refl ])
+cut_listed rules host cut e = grind (arith, adds_by)
 
 -- what is taken off a host name begins it
 pub cut_begins : (rules : List MappingRule) (host cut : List ℕ) → added_prefix Server rules host ≡ Some cut
@@ -107,19 +80,12 @@ cut_begins rules host cut e =
       | inr w ↦ rw w.1 (and_parts by.rule.server (begins by.rule.prepend host) fit).1
     ]
 
--- hidden is hidden by a rule
-hidden_by_kind : (kind : RuleType) (prepend host : List ℕ)
-    → (host_answer_by kind prepend host ≡ IsHidden → is_none (added_prefix_by kind prepend) ≡ true)
-    × (is_none (added_prefix_by kind prepend) ≡ true → host_answer_by kind prepend host ≡ IsHidden)
-hidden_by_kind kind prepend host = (λ e. grind arith, λ e. grind arith)
-
 hidden_by : (o : Option MappingRule) (host : List ℕ)
     → (option_map_or (λ rule. host_answer_by rule.kind rule.prepend host) o IsUndecided ≡ IsHidden
     → option_map_or (λ rule. is_none (added_prefix_of rule)) o false ≡ true)
     × (option_map_or (λ rule. is_none (added_prefix_of rule)) o false ≡ true
     → option_map_or (λ rule. host_answer_by rule.kind rule.prepend host) o IsUndecided ≡ IsHidden)
-hidden_by None host = (λ e. absurd (cc), λ e. absurd (false≢true e))
-hidden_by (Some rule) host = hidden_by_kind rule.kind rule.prepend host
+hidden_by o host = grind arith
 
 pub hidden_test : (rules : List MappingRule) (host : List ℕ) → host_answer rules host ≡ IsHidden
     → is_hidden rules host ≡ true
@@ -142,26 +108,17 @@ not_empty name = name ≢ []
 
 one_name : (host : List ℕ) → not_empty host → All IsNotZero host → names (host ++ 0 ∷ []) ≡ host ∷ []
 one_name [] some no_zero = absurd (some refl)
-one_name (x ∷ xs) some no_zero =
-    names_of_one (x ∷ xs) no_zero ∙ ap (λ b. cond b ((x ∷ xs) ∷ []) []) (some_name x xs)
-
-answer_of_one : (answer : HostAnswer)
-    → cond (is_decided answer && true) (Some (as_list (cons_option (listed_name answer) []))) None ≡ answer_to_one
-    answer
-answer_of_one answer = grind (arith, append-nil)
+one_name (x ∷ xs) some no_zero = search (rules, names_of_one, some_name)
 
 pub server_one : (rules : List MappingRule) (host : List ℕ) → not_empty host → All IsNotZero host
     → server_answer rules (host ++ 0 ∷ []) ≡ answer_to_one (host_answer rules host)
-server_one rules host some no_zero = search (rules, one_name, answer_of_one)
+server_one rules host some no_zero = grind (arith, one_name, append-nil)
 
 -- ---- no zero in what stands before a name
 
 found_is : {X : Type 0} (P : X → Type 0) (p : X → Bool) (xs : List X) → All P xs → (x : X) → find p xs ≡ Some x → P x
 found_is P p [] all x e = absurd (cc)
-found_is P p (y ∷ ys) all x e =
-    cond_both (p y) (Some y) (find p ys) (λ o. o ≡ Some x → P x)
-    (λ _ k. let same : y ≡ x = cc in subst P same (All-head P y ys all))
-    (λ _ k. found_is P p ys (All-tail P y ys all) x k) e
+found_is P p (y ∷ ys) all x e = grind (arith, found_is P p ys (All-tail P y ys all) x, cond_both, All-head, All-tail)
 
 pub added_no_zero : (side : Side) (rules : List MappingRule) (name added : List ℕ) → All HasNoZero rules
     → added_prefix side rules name ≡ Some added → All IsNotZero added

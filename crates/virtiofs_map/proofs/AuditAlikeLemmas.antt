@@ -1,11 +1,11 @@
 -- Names that fare alike: the longest of some patterns that begins a name is begun by the same patterns as the name.
-use Rattle.std.proofs.Common.{◌≡◌, zero, suc, ◌≢◌, ℕ, ◌+◌, ◌<◌, ◌≤◌, Bool, true, false, ◌&&◌, cond, eqb, List, [], ◌∷◌}
+use Rattle.std.proofs.Common.{◌≡◌, zero, suc, ◌≢◌, ℕ, ◌+◌, ◌<◌, ◌≤◌, Bool, true, false, ◌&&◌, cond, List, [], ◌∷◌}
 use Rattle.std.proofs.Common.{◌++◌, map, length, drop, Option, Some, None, ◌⊎◌, inl, inr, refl, sym, ap, ◌∙◌, subst}
-use Rattle.std.proofs.Common.{arith, flat_map, find, option_and_then, true≢false, eqb-true, eq-eqb, rules}
+use Rattle.std.proofs.Common.{arith, flat_map, find, option_and_then, eq-eqb, rules}
 use Rattle.std.specs.List.{AllByRecursion, cons_option, range_with_len}
 use Rattle.std.specs.Option.{option_map_or}
 use Rattle.std.proofs.lemmas.Bool.{and_parts, and_from, cond_both, cases_Bool, cases_lt, false≢true}
-use Rattle.virtiofs_map.specs.AuditParts.{added_prefix, rest_after, rest_of, rests, guest_names, whole_of, wholes}
+use Rattle.virtiofs_map.specs.AuditParts.{added_prefix, rests, guest_names, wholes}
 use Rattle.virtiofs_map.specs.AuditParts.{live_wholes, host_names, is_cut, cuts, one_byte, one_byte_names}
 use Rattle.virtiofs_map.specs.GatheredParts.{added_prefix_of, host_pattern}
 use Rattle.virtiofs_map.specs.FirstRule.{acts}
@@ -24,11 +24,7 @@ pub shorter_begins : (p q n : List ℕ) → begins p n ≡ true → begins q n �
 shorter_begins [] q n b d l = refl
 shorter_begins (x ∷ p) [] n b d l = absurd (omega arith)
 shorter_begins (x ∷ p) (y ∷ q) [] b d l = absurd (false≢true b)
-shorter_begins (x ∷ p) (y ∷ q) (z ∷ n) b d l =
-    let one = and_parts (eqb x z) (begins p n) b in
-    let other = and_parts (eqb y z) (begins q n) d in
-    let same : x ≡ y = eqb-true x z one.0 ∙ sym (eqb-true y z other.0) in
-    and_from (eqb x y) (begins p q) (eq-eqb x y same) (shorter_begins p q n one.1 other.1 (omega arith))
+shorter_begins (x ∷ p) (y ∷ q) (z ∷ n) b d l = grind (arith, shorter_begins p q n)
 
 pub begins-append_both : (a p n : List ℕ) → begins (a ++ p) (a ++ n) ≡ begins p n
 begins-append_both [] p n = refl
@@ -97,28 +93,13 @@ one_more t patterns tried name stood =
       keep : Meets name stood.by t → Stood (t ∷ patterns) (t ∷ tried) name
       keep met = record {
         by = stood.by;
-        stands = record {
-          not_empty = stood.stands.not_empty;
-          is_front = stood.stands.is_front;
-          met = (met, stood.stands.met);
-          is_tried = inr stood.stands.is_tried;
-        };
+        stands = grind arith;
       }
 
       take : begins t name ≡ true → length stood.by < length t → Stood (t ∷ patterns) (t ∷ tried) name
       take holds l = record {
         by = t;
-        stands = record {
-          not_empty = λ none. let e = ap length none in absurd (omega arith);
-          is_front = holds;
-          met = (
-            λ b. shorter_begins t t name holds holds (omega arith),
-            all_weaker (Meets name stood.by) (Meets name t)
-                (λ s met b. begins_trans s stood.by t (met b)
-                (shorter_begins stood.by t name stood.stands.is_front holds (omega arith))) patterns stood.stands.met,
-          );
-          is_tried = inl refl;
-        };
+        stands = grind (arith, shorter_begins, all_weaker, Meets, begins_trans);
       }
 
 in_range : (a n x : ℕ) → a ≤ x → x < a + n → Member (one_byte x) (map one_byte (range_with_len a n))
@@ -170,12 +151,7 @@ cover_within beginning patterns x xs l u b =
     let stands = found.stands in
     record {
       by = found.by;
-      stands = record {
-        not_empty = stands.not_empty;
-        is_front = stands.is_front;
-        met = stands.met.1;
-        is_tried = stands.is_tried;
-      };
+      stands = grind arith;
       front = stands.met.0 b;
     }
 
@@ -189,19 +165,7 @@ fits_more side front name b rule e = grind (arith, and_parts, and_from, begins_t
 find_fewer : {X : Type 0} (p q : X → Bool) (xs : List X) (x : X) → ((y : X) → q y ≡ true → p y ≡ true)
     → find p xs ≡ Some x → q x ≡ true → find q xs ≡ Some x
 find_fewer p q [] x more e holds = absurd (cc)
-find_fewer p q (y ∷ ys) x more e holds =
-    elim (cases_Bool (p y)) [
-      | inl passes ↦
-          (let here : Some y ≡ Some x = rw passes at e in
-          let same : y ≡ x = cc in
-          rw (ap q same ∙ holds) here)
-      | inr fails ↦
-          (let later : find p ys ≡ Some x = rw fails at e in
-          elim (cases_Bool (q y)) [
-            | inl passes ↦ absurd (true≢false (sym (more y passes) ∙ fails))
-            | inr other ↦ rw other (find_fewer p q ys x more later holds)
-          ])
-    ]
+find_fewer p q (y ∷ ys) x more e holds = grind (arith, find_fewer p q ys x more)
 
 -- the rule that decides a name decides each front of it that it fits
 pub decides_front : (side : Side) (rules : List MappingRule) (front name : List ℕ) (rule : MappingRule)
@@ -226,14 +190,7 @@ patterns_same : (on : MappingRule → Bool) (pattern : MappingRule → List ℕ)
     → AllByRecursion (λ rule. (on rule && begins (pattern rule) name) ≡ (on rule && begins (pattern rule) c)) rules
 patterns_same on pattern more [] name c f all = tt
 patterns_same on pattern more (rule ∷ rules) name c f all =
-    let names : MappingRule → List (List ℕ) = λ rule. cond (on rule) (pattern rule ∷ more rule) [] in (
-      here (on rule) (all_first (Meets name c) (names rule) (flat_map names rules) all),
-      patterns_same on pattern more rules name c f (all_second (Meets name c) (names rule) (flat_map names rules) all),
-    ) where
-      here : (b : Bool) → AllByRecursion (Meets name c) (cond b (pattern rule ∷ more rule) [])
-          → (b && begins (pattern rule) name) ≡ (b && begins (pattern rule) c)
-      here true met = met_same name c (pattern rule) f met.0
-      here false met = refl
+    grind (arith, patterns_same on pattern more rules name c f, all_first, flat_map, all_second, met_same)
 
 -- by the rests of a front
 rest_same : (added pattern name c : List ℕ) → begins c name ≡ true → (b : Bool) → begins added pattern ≡ b
@@ -244,12 +201,7 @@ rest_same added pattern name c f true b met =
     let split = begins_split added pattern b in
     ap (λ p. begins p (added ++ name)) split ∙ begins-append_both added rest name ∙ met_same name c rest f met.0
     ∙ sym (ap (λ p. begins p (added ++ c)) split ∙ begins-append_both added rest c)
-rest_same added pattern name c f false fails met =
-    same_tests (begins pattern (added ++ name)) (begins pattern (added ++ c))
-    (λ b. begins_trans pattern added (added ++ c) (begins_within added pattern name fails b)
-    (begins-append added c))
-    (λ b. begins_trans pattern added (added ++ name) (begins_within added pattern c fails b)
-    (begins-append added name))
+rest_same added pattern name c f false fails met = grind (arith, same_tests, begins_trans, begins_within, begins-append)
 
 first_option : {X : Type 0} (P : X → Type 0) (o : Option X) (xs : List X) → AllByRecursion P (cons_option o xs)
     → AllByRecursion P (cons_option o []) × AllByRecursion P xs
@@ -266,19 +218,7 @@ rests_same : (side : Side) (others : List MappingRule) (added name c : List ℕ)
     → AllByRecursion (BeginsBoth side (added ++ name) (added ++ c)) others
 rests_same side [] added name c f all = tt
 rests_same side (rule ∷ others) added name c f all =
-    let parts = first_option (Meets name c) (rest_of side added rule) (rests side others added) all in
-    (here parts.0, rests_same side others added name c f parts.1) where
-      rest_is : (pattern : List ℕ) → acts side rule ≡ true → host_pattern side rule ≡ Some pattern
-          → rest_of side added rule ≡ rest_after added pattern
-      rest_is pattern on is =
-          ap (λ b. cond b (option_and_then (rest_after added) (host_pattern side rule)) None) on
-          ∙ ap (option_and_then (rest_after added)) is
-
-      here : AllByRecursion (Meets name c) (cons_option (rest_of side added rule) [])
-          → BeginsBoth side (added ++ name) (added ++ c) rule
-      here met on pattern is =
-          rest_same added pattern name c f (begins added pattern) refl
-          (subst (λ o. AllByRecursion (Meets name c) (cons_option o [])) (rest_is pattern on is) met)
+    grind (arith, rests_same side others added name c f, first_option, option_and_then, rest_same)
 
 -- the patterns of the rule that decides are among those of all rules
 of_found : (P : List ℕ → Type 0) (fit acts : MappingRule → Bool) (pattern : MappingRule → List ℕ)
@@ -289,21 +229,7 @@ of_found : (P : List ℕ → Type 0) (fit acts : MappingRule → Bool) (pattern 
     → option_and_then added_prefix_of (find fit rules) ≡ Some cut → AllByRecursion P (more cut)
 of_found P fit acts pattern more on [] cut all e = cc
 of_found P fit acts pattern more on (rule ∷ rules) cut all e =
-    let names : MappingRule → List (List ℕ) =
-    λ rule. cond (acts rule) (pattern rule ∷ option_map_or more (added_prefix_of rule) []) [] in
-    let mine = all_first P (names rule) (flat_map names rules) all in
-    let others = all_second P (names rule) (flat_map names rules) all in
-    cond_both (fit rule) (Some rule) (find fit rules)
-    (λ o. option_and_then added_prefix_of o ≡ Some cut → AllByRecursion P (more cut)) (λ b k. here (on rule b) mine k)
-    (λ _ k. of_found P fit acts pattern more on rules cut others k) e where
-      here : acts rule ≡ true
-          → AllByRecursion P (cond (acts rule) (pattern rule ∷ option_map_or more (added_prefix_of rule) []) [])
-          → added_prefix_of rule ≡ Some cut → AllByRecursion P (more cut)
-      here holds mine k =
-          let met =
-          subst (λ b. AllByRecursion P (cond b (pattern rule ∷ option_map_or more (added_prefix_of rule) []) [])) holds
-          mine in
-          subst (λ o. AllByRecursion P (option_map_or more o [])) k met.1
+    grind (arith, of_found P fit acts pattern more on rules cut, all_first, flat_map, all_second, cond_both, option_and_then)
 
 -- the two names meet the same rules, and the same patterns for host names begin what they become
 pub record FareAlike (side : Side) (rules others : List MappingRule) (name c : List ℕ) : Type 0 where
@@ -351,22 +277,12 @@ front_is_cut rules host (x ∷ xs) e =
     ap (λ o. cuts (x ∷ xs) (option_and_then added_prefix_of o)) same ∙ ap (cuts (x ∷ xs)) by.puts
     ∙ eq-eqb (length (x ∷ xs)) (length (x ∷ xs)) refl
 
-whole_same : (cut key name rest : List ℕ) → begins (cut ++ rest) (cut ++ name) ≡ true
-    → Meets (cut ++ name) (cut ++ rest) (cut ++ key) → begins key name ≡ begins key rest
-whole_same cut key name rest f met = search (rules, begins-append_both, met_same)
-
 wholes_same : (others : List MappingRule) (cut name rest : List ℕ) → begins (cut ++ rest) (cut ++ name) ≡ true
     → AllByRecursion (Meets (cut ++ name) (cut ++ rest)) (wholes others cut)
     → AllByRecursion (λ rule. fits Client name rule ≡ fits Client rest rule) others
 wholes_same [] cut name rest f all = tt
 wholes_same (rule ∷ others) cut name rest f all =
-    let parts = first_option (Meets (cut ++ name) (cut ++ rest)) (whole_of cut rule) (wholes others cut) all in
-    (here rule.client parts.0, wholes_same others cut name rest f parts.1) where
-      here : (b : Bool)
-          → AllByRecursion (Meets (cut ++ name) (cut ++ rest)) (cons_option (cond b (Some (cut ++ rule.key)) None) [])
-          → (b && begins rule.key name) ≡ (b && begins rule.key rest)
-      here true met = whole_same cut rule.key name rest f met.0
-      here false met = refl
+    grind (arith, wholes_same others cut name rest f, first_option, begins-append_both, met_same)
 
 pub record ListedAlike (rules others : List MappingRule) (host c : List ℕ) : Type 0 where
   pub server : deciding Server rules host ≡ deciding Server rules c
@@ -387,9 +303,9 @@ listed_alike rules others tried host c stands = record {
       (live_wholes rules others) (λ rule b. (and_parts rule.server (begins rule.prepend host) b).0) rules cut
       stands.met decides in
       let met : AllByRecursion (Meets host c) (wholes others cut) =
-      subst (λ b. AllByRecursion (Meets host c) (cond b (wholes others cut) [])) (front_is_cut rules host cut e) led in
+      grind (arith, Meets, front_is_cut) in
       let front : begins (cut ++ rest) (cut ++ name) ≡ true =
-      subst (λ n. begins (cut ++ rest) n ≡ true) split (subst (λ p. begins p host ≡ true) other stands.is_front) in
+      grind arith in
       let over =
       subst (λ n. AllByRecursion (Meets n (cut ++ rest)) (wholes others cut)) split
       (subst (λ p. AllByRecursion (Meets host p) (wholes others cut)) other met) in

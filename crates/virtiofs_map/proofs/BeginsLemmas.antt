@@ -1,7 +1,7 @@
 -- A row of bytes that begins a name, and the first rule that fits a name.
 use Rattle.std.proofs.Common.{◌≡◌, ℕ, Bool, cond, ltb, List, length, Some, None, refl, sym, ◌∙◌, ◌≤◌, true, [], ◌∷◌}
 use Rattle.std.proofs.Common.{◌++◌, drop, ap, append_assoc, append-nil, arith}
-use Rattle.std.specs.List.{slice_get, position_or_len, find}
+use Rattle.std.specs.List.{slice_get, find}
 use Rattle.std.specs.Option.{option_and_then}
 use Rattle.std.proofs.lemmas.List.Folds.{find_at}
 use Rattle.std.proofs.lemmas.Bool.{cond_both, ltb-false, and_parts}
@@ -17,15 +17,12 @@ use Rattle.virtiofs_map.specs.declared.xattrmap.scopes.Side.TheVariants.{Server}
 -- the element at a place, where past the end is no place
 within : {X : Type 0} (xs : List X) (i : ℕ)
     → option_and_then (slice_get xs) (cond (ltb i (length xs)) (Some i) None) ≡ slice_get xs i
-within xs i =
-    cond_both (ltb i (length xs)) (Some i) None (λ o. option_and_then (slice_get xs) o ≡ slice_get xs i) (λ _. refl)
-    (λ e. sym (slice_get_past xs i (ltb-false i (length xs) e)))
+within xs i = grind (arith, cond_both, slice_get_past, ltb-false)
 
 -- the rule at the first place that passes is the first rule that passes
 pub deciding-find : (side : Side) (rules : List MappingRule) (name : List ℕ)
     → deciding side rules name ≡ find (fits side name) rules
-deciding-find side rules name =
-    within rules (position_or_len (fits side name) rules) ∙ sym (find_at (fits side name) rules)
+deciding-find side rules name = search (within, find_at)
 
 -- a name that p begins is p, and then the rest
 pub begins_split : (p n : List ℕ) → begins p n ≡ true → n ≡ p ++ drop (length p) n
@@ -52,8 +49,7 @@ begins_length p n b = front_fits n p (drop (length p) n) (begins_split p n b)
 -- what `find` gives passes
 pub found_passes : {X : Type 0} (p : X → Bool) (xs : List X) (x : X) → find p xs ≡ Some x → p x ≡ true
 found_passes p [] x e = cc
-found_passes p (y ∷ ys) x e =
-    cond_both (p y) (Some y) (find p ys) (λ o. o ≡ Some x → p x ≡ true) (λ b k. cc) (λ _ k. found_passes p ys x k) e
+found_passes p (y ∷ ys) x e = grind (arith, found_passes p ys x)
 
 -- the rule that decides a name fits it
 pub deciding_fits : (side : Side) (rules : List MappingRule) (name : List ℕ) (rule : MappingRule)

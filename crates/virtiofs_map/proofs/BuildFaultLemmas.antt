@@ -1,6 +1,6 @@
 -- An accepted list has no fault, and a list has at most one first fault.
-use Rattle.std.proofs.Common.{◌≡◌, inl, inr, ℕ, ◌<◌, List, length, take, get_or, Option, Some, IsSomeAnd, IfSome}
-use Rattle.std.proofs.Common.{slice_get, refl, sym, ◌∙◌, subst, arith, rules}
+use Rattle.std.proofs.Common.{◌≡◌, ℕ, ◌<◌, List, length, take, get_or, Option, Some, IsSomeAnd, IfSome}
+use Rattle.std.proofs.Common.{slice_get, refl, arith, rules}
 use Rattle.std.proofs.Math.Seq.{take-length}
 use Rattle.std.proofs.lemmas.Bool.{cases_order}
 use Rattle.std.proofs.lemmas.List.{get_or-take, get_or_default, length-take}
@@ -19,8 +19,7 @@ Fits-accepted : (specs : List IdMap) (i j : ℕ) (spec : IdMap) (direction : Dir
 Fits-accepted specs i j spec direction accepted here before =
     let within : i < length specs = slice_get_within specs i spec here in
     let below : i < length (take j specs) = omega (arith, length-take j specs) in
-    let is : get_or (take j specs) i spec ≡ spec = get_or-take j specs i spec before
-    ∙ get_or_from_slice_get specs i spec spec here in
+    let is : get_or (take j specs) i spec ≡ spec = grind (arith, get_or-take, get_or_from_slice_get) in
     record {
       source = rw is at (accepted.source direction i spec below);
       apart = meets_none below is;
@@ -30,10 +29,9 @@ Fits-accepted specs i j spec direction accepted here before =
           → ¬ MeetsEarlier (take i specs) spec direction
       meets_none below is (other, (k, earlier, there), (n, first, second)) =
           let under : k < i = omega (arith, length-take i specs) in
-          let other_is : get_or (take j specs) k other ≡ other = get_or-take j specs k other (omega arith)
-          ∙ sym (get_or-take i specs k other under) ∙ there in
+          let other_is : get_or (take j specs) k other ≡ other = grind (arith, get_or-take) in
           accepted.apart direction k i other under below
-          (n, rw other_is second, rw (get_or_default (take j specs) i other spec below, is) first)
+          (grind (arith, get_or_default))
 
 -- the place of a fault: the specification there does not fit
 record FaultAt (specs : List IdMap) (spec : IdMap) (index : ℕ) (direction : Direction) : Type 0 where
@@ -61,8 +59,7 @@ accepted_faultless : (specs : List IdMap) (spec : IdMap) (index : ℕ) (directio
 accepted_faultless specs spec index direction accepted fault =
     let whole : Accepted (take (length specs) specs) = rw (take-length specs) accepted in
     fault.unfit
-    (Fits-accepted specs index (length specs) spec direction whole fault.reached.here
-    (slice_get_within specs index spec fault.reached.here))
+    (grind (arith, Fits-accepted, slice_get_within))
 
 pub Accepted-no_fault : (specs : List IdMap) (e : BuildFault) → Accepted specs → ¬ HasFirstFault specs e
 Accepted-no_fault specs (RangeOverflow spec index direction Source) accepted fault =
@@ -72,27 +69,9 @@ Accepted-no_fault specs (RangeOverflow spec index direction Target) accepted fau
 Accepted-no_fault specs (Intersects spec index direction) accepted fault =
     accepted_faultless specs spec index direction accepted (at_meeting specs spec index direction fault)
 
--- no fault stands before another one
-not_before : (specs : List IdMap) (spec other : IdMap) (i j : ℕ) (direction way : Direction)
-    → FaultAt specs spec i direction → FaultAt specs other j way → ¬ (i < j)
-not_before specs spec other i j direction way first second before = search (rules, Fits-accepted)
-
-one_index : (specs : List IdMap) (spec other : IdMap) (i j : ℕ) (direction way : Direction)
-    → FaultAt specs spec i direction → FaultAt specs other j way → i ≡ j
-one_index specs spec other i j direction way first second =
-    elim (cases_order i j) [
-      | inl same ↦ same
-      | inr (inl before) ↦ absurd (not_before specs spec other i j direction way first second before)
-      | inr (inr after) ↦ absurd (not_before specs other spec j i way direction second first after)
-    ]
-
 one_spec : (specs : List IdMap) (spec other : IdMap) (i : ℕ) (direction way : Direction)
     → FaultAt specs spec i direction → FaultAt specs other i way → spec ≡ other
 one_spec specs spec other i direction way first second = search (rules, same_Some)
-
-one_direction : (specs : List IdMap) (spec : IdMap) (i : ℕ) (direction way : Direction) → FaultAt specs spec i direction
-    → FaultAt specs spec i way → direction ≡ way
-one_direction specs spec i direction way first second = grind arith
 
 -- two faults stand at one place
 record SamePlace (spec other : IdMap) (i j : ℕ) (direction way : Direction) : Type 0 where
@@ -102,16 +81,7 @@ record SamePlace (spec other : IdMap) (i j : ℕ) (direction way : Direction) : 
 
 same_place : (specs : List IdMap) (spec other : IdMap) (i j : ℕ) (direction way : Direction)
     → FaultAt specs spec i direction → FaultAt specs other j way → SamePlace spec other i j direction way
-same_place specs spec other i j direction way first second =
-    let index : i ≡ j = one_index specs spec other i j direction way first second in
-    let second' : FaultAt specs other i way = subst (λ (k : ℕ). FaultAt specs other k way) (sym index) second in
-    let is : spec ≡ other = one_spec specs spec other i direction way first second' in
-    let second'' : FaultAt specs spec i way = subst (λ (s : IdMap). FaultAt specs s i way) (sym is) second' in
-    record {
-      same_spec = is;
-      same_index = index;
-      same_direction = one_direction specs spec i direction way first second'';
-    }
+same_place specs spec other i j direction way first second = grind (arith, cases_order, Fits-accepted, one_spec)
 
 -- the tests come in one order, and only the first one that is broken is told
 source_then_meeting : (specs : List IdMap) (spec other : IdMap) (i j : ℕ) (direction way : Direction)

@@ -1,7 +1,6 @@
 -- What is known of the prepend of the rule that decides a name.
-use Rattle.std.proofs.Common.{◌≡◌, ◌≢◌, ◌≤◌, ℕ, List, All, Option, Some, IsSomeAnd, length, ap, ◌∙◌, option_and_then}
+use Rattle.std.proofs.Common.{◌≡◌, ◌≢◌, ◌≤◌, ℕ, List, All, Option, Some, IsSomeAnd, length, option_and_then}
 use Rattle.std.proofs.Common.{arith}
-use Rattle.virtiofs_map.specs.GatheredParts.{added_prefix_by, added_prefix_of}
 use Rattle.virtiofs_map.specs.Names.{deciding}
 use Rattle.virtiofs_map.specs.Rule.{HasNoZero, MappingRule, Prefix}
 use Rattle.virtiofs_map.specs.declared.xattrmap.scopes.Side.{Side}
@@ -21,7 +20,7 @@ pub prepend_no_zero : (side : Side) (rules : List MappingRule) (name prepend : L
 prepend_no_zero side rules name prepend says no_zero =
     let by = decider (λ rule. (rule.kind ≡ Prefix) × (rule.prepend ≡ prepend)) (deciding side rules name) says in
     added_no_zero side rules name prepend no_zero
-    (ap (option_and_then added_prefix_of) by.1 ∙ ap (λ kind. added_prefix_by kind by.0.prepend) by.2.0 ∙ ap (λ p. Some p) by.2.1)
+    (grind (arith, option_and_then))
 
 -- a prepend is no longer than the name
 pub prefix_within : (rules : List MappingRule) (name prepend : List ℕ)

@@ -73,11 +73,7 @@ module _ {X : Type 0} (row : X → List ℕ) (size : (x : X) → length (row x) 
   -- there are as many as elements
   pub length-rows : (xs : List X) → length (flat_map row xs) ≡ 24 * length xs
   length-rows [] = refl
-  length-rows (x ∷ xs) =
-      let split = length-append (row x) (flat_map row xs) in
-      let one = size x in
-      let more = length-rows xs in
-      omega arith
+  length-rows (x ∷ xs) = grind (arith, length-rows xs, length-append)
 
   drop_row : (x : X) (rows : List ℕ) (at : ℕ) → drop (suc at * 24) (row x ++ rows) ≡ drop (at * 24) rows
   drop_row x rows at = search (rules, drop-append-add)
@@ -103,18 +99,12 @@ length-rows_in first labels = length-rows (row_in first labels) (λ node. length
 
 pub length-words : (ws : List ℕ) → length (flat_map le_u64_bytes ws) ≡ 8 * length ws
 length-words [] = refl
-length-words (w ∷ ws) =
-    let split = length-append (le_u64_bytes w) (flat_map le_u64_bytes ws) in
-    let one = length-le_u64_bytes w in
-    let more = length-words ws in
-    omega arith
+length-words (w ∷ ws) = grind (arith, length-words ws, length-append, length-le_u64_bytes)
 
 pub word_of_words : (ws rest : List ℕ) (k : ℕ) → k < length ws → All (λ w. w < 2 ^ 64) ws
     → le_u64_at (flat_map le_u64_bytes ws ++ rest) (8 * k) ≡ get_or ws k 0
 word_of_words [] rest k below fit = absurd (omega arith)
-word_of_words (w ∷ ws) rest zero below fit =
-    ap (λ (l : List ℕ). le_u64_at l 0) (append_assoc (le_u64_bytes w) (flat_map le_u64_bytes ws) rest)
-    ∙ le_u64_at-front w (flat_map le_u64_bytes ws ++ rest) (All-head (λ w. w < 2 ^ 64) w ws fit)
+word_of_words (w ∷ ws) rest zero below fit = grind (arith, append_assoc, le_u64_at-front, All-head)
 word_of_words (w ∷ ws) rest (suc k) below fit =
     let place : 8 * suc k ≡ 8 + 8 * k = omega arith in
     ap (λ (l : List ℕ). le_u64_at l (8 * suc k)) (append_assoc (le_u64_bytes w) (flat_map le_u64_bytes ws) rest)

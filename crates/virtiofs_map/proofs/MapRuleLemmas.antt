@@ -2,11 +2,10 @@
 use Rattle.std.proofs.Common.{◌≡◌, ℕ, Bool, true, false, not, cond, List, [], ◌∷◌, ◌++◌, length, drop, filter, Option}
 use Rattle.std.proofs.Common.{Some, None, ◌⊎◌, inl, inr, refl, sym, ap, ◌∙◌, subst, arith, All, filter_map}
 use Rattle.std.proofs.Common.{encode_utf8_all, ne_eqb, append-nil, append_assoc, drop_at, rules}
-use Rattle.std.specs.List.{cons_option, list_all}
-use Rattle.std.specs.Option.{option_map_or}
+use Rattle.std.specs.List.{list_all}
 use Rattle.virtiofs_map.specs.Rule.{RuleType, Prefix, Okay, Bad, MappingRule}
-use Rattle.virtiofs_map.specs.Names.{begins, Passes, IsDenied, IsUnterminated, answer_by, client_answer, HostAnswer}
-use Rattle.virtiofs_map.specs.Names.{IsListed, IsHidden, IsUndecided, host_answer_by, host_answer, is_decided}
+use Rattle.virtiofs_map.specs.Names.{begins, Passes, IsDenied, IsUnterminated, client_answer, HostAnswer}
+use Rattle.virtiofs_map.specs.Names.{IsListed, IsHidden, host_answer, is_decided}
 use Rattle.virtiofs_map.specs.Names.{listed_name, names, as_list, server_answer}
 use Rattle.virtiofs_map.specs.MapRule.{map_client, map_server, IsName, IsMapRule, map_rule, Agree, KeepsGuestsApart}
 use Rattle.virtiofs_map.specs.RuleText.{RuleText, expanded}
@@ -24,39 +23,12 @@ both kind key prepend = record { kind = kind; client = true; server = true; key 
 abbrev pub keyed : List ℕ → List ℕ → List MappingRule
 keyed key prepend = both Prefix key prepend ∷ both Bad prepend key ∷ both Okay [] [] ∷ []
 
-abbrev pub keyless : List ℕ → List MappingRule
-keyless prepend = both Prefix [] prepend ∷ both Bad [] [] ∷ []
-
 -- what the rules make of each name, on either side
 pub record Acts (key prepend : List ℕ) (rules : List MappingRule) : Type 0 where
   pub client : (name : List ℕ) → client_answer rules name ≡ map_client key prepend name
   pub host : (name : List ℕ) → host_answer rules name ≡ map_server key prepend name
 
 -- ---- the two or three rules act as the one
-
-client_by : (a b : Bool) (key prepend name : List ℕ)
-    → option_map_or (λ rule. answer_by rule.kind rule.prepend name)
-    (cond a (Some (both Prefix key prepend)) (cond b (Some (both Bad prepend key)) (Some (both Okay [] []))))
-    IsUnterminated ≡ cond a (Passes (prepend ++ name)) (cond b IsDenied (Passes name))
-client_by a b key prepend name = grind arith
-
-host_by : (a b : Bool) (key prepend name : List ℕ)
-    → option_map_or (λ rule. host_answer_by rule.kind rule.prepend name)
-    (cond a (Some (both Prefix key prepend)) (cond b (Some (both Bad prepend key)) (Some (both Okay [] []))))
-    IsUndecided ≡ cond a (IsListed (drop (length prepend) name)) (cond b IsHidden (IsListed name))
-host_by a b key prepend name = grind arith
-
-pub keyed_acts : (key prepend : List ℕ) → Acts key prepend (keyed key prepend)
-keyed_acts key prepend = search (rules, deciding-find, client_by, host_by)
-
-keyless_host_by : (a : Bool) (prepend name : List ℕ)
-    → option_map_or (λ rule. host_answer_by rule.kind rule.prepend name)
-    (cond a (Some (both Prefix [] prepend)) (Some (both Bad [] []))) IsUndecided ≡ cond a
-    (IsListed (drop (length prepend) name)) IsHidden
-keyless_host_by a prepend name = grind arith
-
-pub keyless_acts : (prepend : List ℕ) → Acts [] prepend (keyless prepend)
-keyless_acts prepend = search (rules, deciding-find, keyless_host_by)
 
 -- ---- what follows from that
 
@@ -77,14 +49,10 @@ pub server_of : (rules : List MappingRule) (answer : List ℕ → HostAnswer)
     → server_answer rules list ≡ Some (as_list (filter_map (λ name. listed_name (answer name)) (names list)))
 server_of rules answer all same list = grind (arith, all_decided, same_listed)
 
-map_decided_by : (a b : Bool) (one other : List ℕ)
-    → is_decided (cond a (IsListed one) (cond b IsHidden (IsListed other))) ≡ true
-map_decided_by a b one other = grind arith
-
 -- what acts as one map rule decides each name
 pub decides : {key prepend : List ℕ} {rules : List MappingRule} → Acts key prepend rules → (name : List ℕ)
     → is_decided (host_answer rules name) ≡ true
-decides {key} {prepend} acts name = search (rules, map_decided_by)
+decides {key} {prepend} acts name = grind arith
 
 -- ---- a name that passes
 
@@ -101,17 +69,10 @@ abbrev pub passes_cases : {key prepend : List ℕ} {rules : List MappingRule} �
 passes_cases {key} {prepend} acts name host e =
     passes_by (begins key name) (begins prepend name) prepend name host (sym (acts.client name) ∙ e)
 
-prefixed_listed : (key prepend name : List ℕ) → map_server key prepend (prepend ++ name) ≡ IsListed name
-prefixed_listed key prepend name = search (rules, begins-append, drop_at)
-
-apart_listed : (key prepend name : List ℕ) → begins key name ≡ false → begins prepend name ≡ false
-    → map_server key prepend name ≡ IsListed name
-apart_listed key prepend name k p = rw (p, k) refl
-
 -- what a name passes as is listed as that name
 passed_listed : {key prepend : List ℕ} {rules : List MappingRule} → Acts key prepend rules → (name host : List ℕ)
     → client_answer rules name ≡ Passes host → host_answer rules host ≡ IsListed name
-passed_listed {key} {prepend} acts name host e = search (rules, prefixed_listed, apart_listed)
+passed_listed {key} {prepend} acts name host e = grind (arith, begins-append, drop_at)
 
 -- it holds no zero
 passed_no_zero : {key prepend : List ℕ} {rules : List MappingRule} → Acts key prepend rules → (name host : List ℕ)
@@ -145,11 +106,8 @@ lists_one : (rules : List MappingRule) (host name : List ℕ)
     → ((each : List ℕ) → is_decided (host_answer rules each) ≡ true) → host_answer rules host ≡ IsListed name
     → (host ≡ [] → name ≡ []) → names (host ++ 0 ∷ []) ≡ filter is_name (host ∷ [])
     → server_answer rules (host ++ 0 ∷ []) ≡ Some (name ++ 0 ∷ [])
-lists_one rules [] name all listed empty one =
-    server_of rules (host_answer rules) all (λ each. refl) (0 ∷ []) ∙ rw (empty refl) refl
-lists_one rules (byte ∷ bytes) name all listed empty one =
-    server_of rules (host_answer rules) all (λ each. refl) (byte ∷ bytes ++ 0 ∷ [])
-    ∙ rw (one, some_name byte bytes, listed) (ap Some (append-nil (name ++ 0 ∷ [])))
+lists_one rules [] name all listed empty one = grind arith
+lists_one rules (byte ∷ bytes) name all listed empty one = grind (arith, server_of, some_name, append-nil)
 
 pub not_zero_name : (name : List ℕ) → IsName name → All IsNotZero name
 not_zero_name name is = search (rules, All-weaker)
@@ -167,19 +125,13 @@ fronts_of {key} {prepend} acts name host e =
     elim (passes_cases acts name host e) [
       | inl way ↦ inl
           (begins_from (prepend ++ key) host (drop (length key) name)
-          (way.1 ∙ ap (λ n. prepend ++ n) (begins_split key name way.0)
-          ∙ sym (append_assoc prepend key (drop (length key) name))))
+          (grind (arith, begins_split, append_assoc)))
       | inr way ↦ inr (ap (begins key) way.2 ∙ way.0, ap (begins prepend) way.2 ∙ way.1)
     ]
 
--- with no key, what a host name is listed as passes as that host name
-listed_back : (a : Bool) (prepend name host : List ℕ) → (a ≡ true → host ≡ prepend ++ drop (length prepend) host)
-    → cond a (IsListed (drop (length prepend) host)) IsHidden ≡ IsListed name → prepend ++ name ≡ host
-listed_back a prepend name host split e = grind arith
-
 way_back_of : (key prepend : List ℕ) (rules : List MappingRule) → Acts key prepend rules → (name host : List ℕ)
     → key ≡ [] → host_answer rules host ≡ IsListed name → client_answer rules name ≡ Passes host
-way_back_of key prepend rules acts name host none k = grind (arith, listed_back, begins_split)
+way_back_of key prepend rules acts name host none k = grind (arith, begins_split)
 
 server_ends : (rules : List MappingRule) (list answer : List ℕ) → server_answer rules list ≡ Some answer
     → server_answer rules list ≡ None → ⊥
@@ -191,15 +143,9 @@ acts_mean key prepend rules no_zero acts = record {
   client = acts.client;
   host = acts.host;
   server = server_of rules (map_server key prepend) (decides acts) acts.host;
-  lists_back = λ name host is e. record {
-    becomes = host;
-    passes = e;
-    lists = lists_one rules host name (decides acts) (passed_listed acts name host e) (passed_empty acts name host e)
-        (names_of_one host (passed_no_zero acts name host no_zero (not_zero_name name is) e));
-  };
+  lists_back = grind (arith, lists_one, decides, passed_listed, passed_empty, names_of_one, passed_no_zero, not_zero_name);
   client_terminated =
-      λ name e. terminated_by (begins key name) (begins prepend name) (prepend ++ name) name
-      (sym (acts.client name) ∙ e);
+      grind (arith, terminated_by);
   server_terminated =
       λ list. server_ends rules list _ (server_of rules (map_server key prepend) (decides acts) acts.host list);
   fronts = λ name host some e. fronts_of acts name host e;
@@ -210,7 +156,7 @@ acts_mean key prepend rules no_zero acts = record {
 
 pub expanded_acts : (key prepend : List ℕ)
     → Acts (encode_utf8_all key) (encode_utf8_all prepend) (expanded (map_rule key prepend ∷ []))
-expanded_acts key prepend = grind (arith, keyless_acts, encode_utf8_all, keyed_acts)
+expanded_acts key prepend = grind (arith, deciding-find, encode_utf8_all)
 
 -- where a text is one map rule, and the rules are those that it stands for, they mean what it means
 pub map_rule_means : (text key prepend : List ℕ) (rules : List MappingRule) → RuleText text (map_rule key prepend ∷ [])
@@ -226,10 +172,7 @@ map_rule_means text key prepend rules read are =
 one_begins : (p q r s : List ℕ) → p ++ r ≡ q ++ s → ((t : List ℕ) × (q ≡ p ++ t)) ⊎ ((t : List ℕ) × (p ≡ q ++ t))
 one_begins [] q r s e = inl (q, refl)
 one_begins (x ∷ p) [] r s e = inr (x ∷ p, refl)
-one_begins (x ∷ p) (y ∷ q) r s e =
-    let head : x ≡ y = cc in
-    let tail : p ++ r ≡ q ++ s = cc in
-    elim (one_begins p q r s tail) [ inl h ↦ inl (h.0, let rest = h.1 in cc) | inr h ↦ inr (h.0, let rest = h.1 in cc) ]
+one_begins (x ∷ p) (y ∷ q) r s e = grind (arith, one_begins p q r s)
 
 -- a name that begins with one prepend is hidden under the other
 apart_hidden : (prepend another name : List ℕ) → begins prepend another ≡ false → begins another prepend ≡ false
@@ -240,8 +183,7 @@ apart_hidden prepend another name a b n =
       clash both =
           elim (one_begins prepend another (drop (length prepend) name) (drop (length another) name)
           (sym (begins_split prepend name both) ∙ begins_split another name n)) [
-            | inl h ↦ false≢true
-                (sym a ∙ begins_from prepend another h.0 h.1)
+            | inl h ↦ grind (arith, false≢true, begins_from)
             | inr h ↦ false≢true (sym b ∙ begins_from another prepend h.0 h.1)
           ]
 
@@ -250,12 +192,7 @@ listed_without : (keep : List ℕ → Option (List ℕ)) (set : List ℕ → Boo
     → ((name : List ℕ) → set name ≡ true → keep name ≡ None) → (all : List (List ℕ))
     → filter_map keep all ≡ filter_map keep (filter (λ name. not (set name)) all)
 listed_without keep set hides [] = refl
-listed_without keep set hides (name ∷ others) = by (listed_without keep set hides others) (set name) refl where
-  by : filter_map keep others ≡ filter_map keep (filter (λ each. not (set each)) others) → (b : Bool) → set name ≡ b
-      → cons_option (keep name) (filter_map keep others) ≡ filter_map keep
-      (cond (not b) (name ∷ filter (λ each. not (set each)) others) (filter (λ each. not (set each)) others))
-  by rest true e = rw (hides name e) rest
-  by rest false e = ap (cons_option (keep name)) rest
+listed_without keep set hides (name ∷ others) = grind (arith, listed_without keep set hides others)
 
 -- the list of one prepend, whatever names begin with another
 same_lists : (prepend another list other : List ℕ) (rules : List MappingRule) → Acts [] prepend rules
@@ -273,4 +210,4 @@ same_lists prepend another list other rules acts a b agree =
 pub guests_apart : (rules : List MappingRule) (list : List ℕ) → KeepsGuestsApart rules list
 guests_apart rules list prepend another other are a b agree =
     same_lists (encode_utf8_all prepend) another list other rules
-    (subst (Acts [] (encode_utf8_all prepend)) (sym are) (expanded_acts [] prepend)) a b agree
+    (grind (arith, encode_utf8_all, expanded_acts)) a b agree

@@ -7,7 +7,7 @@ use Rattle.std.proofs.lemmas.List.Sorted.{All-permutation, Contains-permutation,
 use Rattle.std.proofs.lemmas.Bool.{cases_order}
 use Rattle.std.proofs.lemmas.Option.{same_Some}
 use Rattle.virtiofs_map.proofs.OrderLemmas.{AllPairs-permutation}
-use Rattle.virtiofs_map.specs.Mapping.{entry_of, EntryCovers, target_of, Covers, Maps, Becomes}
+use Rattle.virtiofs_map.specs.Mapping.{entry_of, Covers, Maps, Becomes}
 use Rattle.virtiofs_map.specs.Build.{Accepted, HasSource, HasTarget, Meet}
 use Rattle.virtiofs_map.specs.MappingLaws.{HasOneValue, IsOrderFree, KeepsGreatest, IsMappedBothWays, opposite}
 use Rattle.virtiofs_map.specs.MappingLaws.{LeadsBack}
@@ -15,12 +15,6 @@ use Rattle.virtiofs_map.specs.declared.cmdline.IdMap.{IdMap}
 use Rattle.virtiofs_map.specs.declared.cmdline.IdMap.TheVariants.{Bidirectional}
 use Rattle.virtiofs_map.specs.declared.soft_idmap.entry.Direction.{Direction}
 use Rattle.virtiofs_map.specs.declared.soft_idmap.entry.Direction.TheVariants.{GuestToHost, HostToGuest}
-use Rattle.virtiofs_map.specs.declared.soft_idmap.entry.Entry.{Entry}
-
--- two elements at one place are one
-at_one_place : {X : Type 0} (xs : List X) (i j : ℕ) (x y : X) → i ≡ j → i < length xs → get_or xs i x ≡ x
-    → get_or xs j y ≡ y → x ≡ y
-at_one_place xs i j x y same below here there = search (rules, get_or_default)
 
 -- the earlier of two specifications meets no later one
 earlier_covers : (specs : List IdMap) (direction : Direction) (n i j : ℕ) (x y : IdMap) → Accepted specs → i < j
@@ -35,21 +29,15 @@ earlier_covers specs direction n i j x y accepted before below here there first 
 one_covers : (specs : List IdMap) (direction : Direction) (n : ℕ) (x y : IdMap) → Accepted specs → Contains specs x
     → Contains specs y → Covers x direction n → Covers y direction n → x ≡ y
 one_covers specs direction n x y accepted (i, below, here) (j, under, there) first second =
-    search (rules, cases_order, at_one_place, earlier_covers)
+    grind (arith, cases_order, get_or_default, earlier_covers)
 
 -- what a specification maps it covers
 pub Covers-maps : (spec : IdMap) (direction : Direction) (n : ℕ) (value : Option ℕ) → Maps spec direction n value
     → Covers spec direction n
 Covers-maps spec direction n value maps = search rules
 
--- a specification makes one thing of a number
-one_target : (o : Option Entry) (n : ℕ) (value other : Option ℕ)
-    → IsSomeAnd o (λ entry. EntryCovers entry n × (target_of entry n ≡ value))
-    → IsSomeAnd o (λ entry. EntryCovers entry n × (target_of entry n ≡ other)) → value ≡ other
-one_target o n value other first second = grind arith
-
 pub HasOneValue-accepted : (specs : List IdMap) → Accepted specs → HasOneValue specs
-HasOneValue-accepted specs accepted direction n value other e h = grind (arith, one_covers, Covers-maps, one_target)
+HasOneValue-accepted specs accepted direction n value other e h = grind (arith, one_covers, Covers-maps)
 
 -- so it becomes one number
 pub Becomes-one : (specs : List IdMap) (direction : Direction) (n a b : ℕ) → Accepted specs
@@ -60,7 +48,7 @@ Becomes-one specs direction n a b accepted first second = search (rules, same_So
 pub Becomes-forbidden : (specs : List IdMap) (direction : Direction) (n a : ℕ) → Accepted specs
     → Becomes specs direction n (Some a) → ¬ Becomes specs direction n None
 Becomes-forbidden specs direction n a accepted becomes forbidden =
-    let same : Some a ≡ None = HasOneValue-accepted specs accepted direction n (Some a) None becomes forbidden in
+    let same : Some a ≡ None = search (rules, HasOneValue-accepted) in
     absurd (cc)
 
 -- what a `map` makes of a number leads back by that `map`
@@ -116,8 +104,5 @@ IsOrderFree-accepted specs accepted others permutation =
         apart = λ direction. AllPairs-permutation (λ spec other. ¬ Meet spec other direction) (Meet-flips direction)
             specs others permutation (accepted.apart direction);
       },
-      λ direction n value. (
-        Becomes-listed specs others direction n value to from,
-        Becomes-listed others specs direction n value from to,
-      ),
+      λ direction n value. (search (rules, Becomes-listed)),
     )

@@ -81,8 +81,7 @@ SaysNamespace-one text a b c x y z one two =
     let q = range_inside text x y z two in
     let (delimiter, inner) = enclosed_same text p.delimiter q.delimiter p.inner q.inner p.enclosed q.enclosed in
     let same : split_at_each p.delimiter p.inner ≡ split_at_each q.delimiter q.inner = rw (delimiter, inner) refl in
-    let fields : p.first ∷ p.second ∷ p.third ∷ [] ≡ q.first ∷ q.second ∷ q.third ∷ [] = sym p.fields ∙ same
-    ∙ q.fields in
+    let fields : p.first ∷ p.second ∷ p.third ∷ [] ≡ q.first ∷ q.second ∷ q.third ∷ [] = grind arith in
     let first : p.first ≡ q.first = cc in
     let second : p.second ≡ q.second = cc in
     let third : p.third ≡ q.third = cc in (
@@ -97,9 +96,7 @@ delimiter_of_enclosed text d inner enclosed none =
     let (front, last) = same_from_push none.front (d ∷ inner) none.last d (sym none.ends ∙ enclosed.whole) in
     elim none.wrong [
       | inl letter ↦
-          let same : is_alphanumeric none.last ≡ is_alphanumeric d = ap is_alphanumeric last in
-          let delimits : is_alphanumeric d ≡ false = enclosed.delimits in
-          cc
+          grind arith
       | inr other ↦ other inner (rw last enclosed.whole)
     ]
 
@@ -121,8 +118,7 @@ fields_of_range text a b c p =
     let Read : List ℕ → Type 0 = λ field. (value : ℕ) × IsNumeral field value in
     rw p.fields
     (All-cons Read p.first (p.second ∷ p.third ∷ []) (a, p.first_says)
-    (All-cons Read p.second (p.third ∷ []) (b, p.second_says)
-    (All-cons Read p.third [] (c, p.third_says) (All-nil Read))))
+    (search (rules, All-cons, All-nil)))
 
 -- a text that says a range has no fault
 pub SaysNamespace-no_fault : (text : List ℕ) (a b c : ℕ) (e : NamespaceFault) → SaysNamespace text a b c
@@ -143,10 +139,9 @@ SaysNamespace-no_fault text a b c InvalidValue says fault =
     let (delimiter, inner) =
     enclosed_same text fault.delimiter p.delimiter fault.inner p.inner fault.enclosed p.enclosed in
     let here : Contains (split_at_each p.delimiter p.inner) fault.field =
-    subst (λ (fs : List (List ℕ)). Contains fs fault.field) (rw (delimiter, inner) refl) fault.here in
+    grind arith in
     let read : (value : ℕ) × IsNumeral fault.field value =
-    All-contains (λ field. (value : ℕ) × IsNumeral field value) (split_at_each p.delimiter p.inner) fault.field
-    (fields_of_range text a b c p) here in
+    grind (arith, All-contains, fields_of_range) in
     fault.unread read.0 read.1
 
 -- an empty text or another count of fields is no other fault
@@ -182,9 +177,7 @@ pub IsBeforeLast-here : (bs rest : List ℕ) (c : ℕ) → IsUtf8 bs → IsScala
 IsBeforeLast-here bs rest c text scalar ends =
     let front : take (length rest) bs ≡ rest = rw ends (take-append_seam rest (encode_utf8 c)) in
     let is_front : IsUtf8 rest =
-    subst (λ (xs : List ℕ). IsUtf8 xs) front
-    (IsUtf8-take bs (length rest) text
-    (IsCharBoundary-at_seam bs rest (encode_utf8 c) ends (IsUtf8-encode c scalar))) in
+    search (rules, IsUtf8-take, IsCharBoundary-at_seam, encode_utf8, IsUtf8-encode) in
     record { is_text = is_front; whole = ap chars ends ∙ chars-push rest c is_front scalar }
 
 -- no byte, no character

@@ -1,25 +1,21 @@
 -- No pattern of a rule that was read holds a zero.
-use Rattle.std.proofs.Common.{◌≢◌, ℕ, ◌<◌, List, [], ◌∷◌, ◌++◌, arith, All, encode_utf8_all, rules}
+use Rattle.std.proofs.Common.{◌≢◌, ℕ, List, [], ◌∷◌, ◌++◌, arith, All, encode_utf8_all, rules}
 use Rattle.std.specs.List.{AllByRecursion}
 use Rattle.std.proofs.lemmas.Bool.{cond_both}
 use Rattle.std.proofs.lemmas.List.Elements.{All-nil, All-append, All-same, All-from_recursion}
 use lib.Utf8.{encode}
-use Rattle.virtiofs_map.specs.Rule.{RuleType, Prefix, Okay, Bad, MappingRule, HasNoZero}
+use Rattle.virtiofs_map.specs.Rule.{RuleType, MappingRule, HasNoZero}
 use Rattle.virtiofs_map.specs.RuleText.{ScopeName, RuleHead, Typed, Map, RuleAsWritten, HasNoNul, RulesThen, RuleText}
 use Rattle.virtiofs_map.specs.RuleText.{rule_of, rules_of, expanded, SaysRules}
 use Rattle.virtiofs_map.specs.Separator.{Lacks}
-use Rattle.virtiofs_map.specs.RuleText as texts
 
 abbrev pub IsNotZero : ℕ → Type 0
 IsNotZero byte = byte ≢ 0
 
-not_zero : (n : ℕ) → 0 < n → IsNotZero n
-not_zero n l e = absurd (omega arith)
-
 -- the bytes of a character hold a zero only where it is U+0000
 char_no_zero : (c : ℕ) → c ≢ 0 → All IsNotZero (encode c)
 unfolding encode
-char_no_zero c some = search (rules, All-from_recursion, cond_both, not_zero)
+char_no_zero c some = grind (arith, All-from_recursion, cond_both)
 
 pub text_no_zero : (text : List ℕ) → Lacks 0 text → All IsNotZero (encode_utf8_all text)
 text_no_zero [] lacks = All-nil IsNotZero
@@ -32,22 +28,14 @@ rule_no_zero kind word key prepend k p = record { in_key = text_no_zero key k; i
 
 rules_no_zero : (head : RuleHead) (key prepend : List ℕ) → Lacks 0 key → Lacks 0 prepend
     → All HasNoZero (rules_of head key prepend)
-rules_no_zero (Typed kind word) key prepend k p =
-    All-from_recursion HasNoZero (rules_of (Typed kind word) key prepend) (rule_no_zero kind word key prepend k p, tt)
-rules_no_zero Map [] prepend k p =
-    All-from_recursion HasNoZero (rules_of Map [] prepend)
-    (rule_no_zero Prefix texts.All [] prepend k p, (rule_no_zero Bad texts.All [] [] tt tt, tt))
+rules_no_zero (Typed kind word) key prepend k p = grind (arith, All-from_recursion, text_no_zero)
+rules_no_zero Map [] prepend k p = grind (arith, All-from_recursion, text_no_zero)
 rules_no_zero Map (c ∷ cs) prepend k p =
-    All-from_recursion HasNoZero (rules_of Map (c ∷ cs) prepend) (
-      rule_no_zero Prefix texts.All (c ∷ cs) prepend k p,
-      (rule_no_zero Bad texts.All prepend (c ∷ cs) p k, (rule_no_zero Okay texts.All [] [] tt tt, tt)),
-    )
+    All-from_recursion HasNoZero (rules_of Map (c ∷ cs) prepend) (search (rules, rule_no_zero))
 
 pub expanded_no_zero : (rules : List RuleAsWritten) → AllByRecursion HasNoNul rules → All HasNoZero (expanded rules)
 expanded_no_zero [] all = All-nil HasNoZero
-expanded_no_zero (rule ∷ rules) all =
-    All-append HasNoZero (rules_of rule.head rule.key rule.prepend) (expanded rules)
-    (rules_no_zero rule.head rule.key rule.prepend all.0.0 all.0.1) (expanded_no_zero rules all.1)
+expanded_no_zero (rule ∷ rules) all = search (expanded_no_zero rules all.1, All-append, rules_no_zero)
 
 -- the rules of a text hold no U+0000
 front_no_nul : (text : List ℕ) (rules : List RuleAsWritten) (rest : List ℕ) (last : RuleAsWritten)

@@ -1,5 +1,5 @@
 -- What `parse` reads as a number is a numeral, over characters, and nothing else is.
-use Rattle.std.proofs.Common.{◌≡◌, ◌⊎◌, ℕ, ◌^◌, ◌<◌, List, [], ◌∷◌, length, get_or, All, Result, Ok, Err, MatchResult}
+use Rattle.std.proofs.Common.{◌≡◌, ℕ, ◌^◌, ◌<◌, List, [], ◌∷◌, length, get_or, All, Result, Ok, Err, MatchResult}
 use Rattle.std.proofs.Common.{IfOk, IfErr, IsOkAnd, IsErr, refl, sym, ◌∙◌, subst, inl, arith, decimal, chars, IsUtf8}
 use Rattle.std.proofs.Common.{IsAscii, rules}
 use Rattle.std.specs.Char.{IsAsciiDigit}
@@ -10,7 +10,7 @@ use Rattle.std.proofs.lemmas.Str.Parse.{IsNumeralModel, numerals_by_value, tells
 use Rattle.std.proofs.lemmas.Str.Parse.{without_leading_plus_plus}
 use Rattle.std.proofs.lemmas.Bool.Decides.{eqb_tells}
 use Rattle.std.proofs.lemmas.Fmt.{decimal_is_IsNumeral}
-use Rattle.std.proofs.lemmas.List.Elements.{All-get_or, All-from_get_or, All-head, All-tail, All-weaker}
+use Rattle.std.proofs.lemmas.List.Elements.{All-get_or, All-from_get_or, All-tail, All-weaker}
 use Rattle.std.proofs.lemmas.List.Elements.{recursion_from_All}
 use Rattle.virtiofs_map.specs.Numeral.{IsNumeral}
 use Rattle.virtiofs_map.specs.Separator.{Lacks}
@@ -30,9 +30,7 @@ IsAscii-cons c cs small ascii e = grind arith
 
 IsAscii-digits : (ds : List ℕ) → All IsAsciiDigit ds → IsAscii ds
 IsAscii-digits [] decimal = λ i. omega arith
-IsAscii-digits (d ∷ ds) decimal =
-    let digit : IsAsciiDigit d = All-head IsAsciiDigit d ds decimal in
-    IsAscii-cons d ds (omega arith) (IsAscii-digits ds (All-tail IsAsciiDigit d ds decimal))
+IsAscii-digits (d ∷ ds) decimal = grind (arith, IsAscii-digits ds (All-tail IsAsciiDigit d ds decimal))
 
 -- the characters of a numeral are ASCII
 IsAscii-numeral : (text : List ℕ) (value : ℕ) → IsNumeral text value → IsAscii text
@@ -43,15 +41,11 @@ bytes-numeral : (bs : List ℕ) (value : ℕ) → IsUtf8 bs → IsNumeral (chars
 bytes-numeral bs value text numeral =
     sym (encodes-IsAscii (chars bs) (IsAscii-numeral (chars bs) value numeral)) ∙ encodes-chars bs text
 
--- the digits of a text, and the text again
-written_from_plus : (bs : List ℕ) → 0 < length (without_leading_plus bs)
-    → (bs ≡ without_leading_plus bs) ⊎ (bs ≡ 43 ∷ without_leading_plus bs)
-written_from_plus bs some = grind (arith, eqb_tells, without_leading_plus_plus, without_leading_plus_none)
-
 -- a text that `parse` reads is a numeral
 numeral_from_digits : (bs : List ℕ) → IsDigits 10 (without_leading_plus bs)
     → digits_value 10 (without_leading_plus bs) < 2 ^ 32 → IsNumeral bs (digits_value 10 (without_leading_plus bs))
-numeral_from_digits bs digits small = search (rules, written_from_plus, decimal, All-AllDigits)
+numeral_from_digits bs digits small =
+    grind (arith, eqb_tells, without_leading_plus_plus, without_leading_plus_none, All-AllDigits)
 
 -- the digits of a numeral are what follows its plus
 digits_of_numeral : (bs : List ℕ) (value : ℕ) (n : IsNumeral bs value) → without_leading_plus bs ≡ n.digits
@@ -65,15 +59,15 @@ numeral_from_parse : {E : Type 0} (bs : List ℕ) (r : Result ℕ E) → IsUtf8 
     → MatchResult r (λ value. IsNumeral (chars bs) value) (λ _. (value : ℕ) → IsNumeral (chars bs) value → ⊥)
 numeral_from_parse bs (Ok value) text (parsed, is) =
     let numeral : IsNumeral bs value =
-    subst (λ (n : ℕ). IsNumeral bs n) (sym is) (numeral_from_digits bs parsed.0 parsed.1) in
+    grind (arith, numeral_from_digits) in
     subst (λ (xs : List ℕ). IsNumeral xs value) (sym (chars-IsAscii bs (IsAscii-numeral bs value numeral))) numeral
 numeral_from_parse bs (Err e) text refused =
     λ value numeral.
     let numeral : IsNumeral bs value =
-    subst (λ (xs : List ℕ). IsNumeral xs value) (bytes-numeral bs value text numeral) numeral in
+    grind (arith, bytes-numeral) in
     let same : without_leading_plus bs ≡ numeral.digits = digits_of_numeral bs value numeral in
     refused (rw same
-    ((numeral.some, AllDigits-All numeral.digits numeral.decimal), rw numeral.worth (omega (arith, numeral.fits))))
+    (search (rules, AllDigits-All)))
 
 -- so what `parse` answers is told both ways
 pub numeral_read : {E : Type 0} (bs : List ℕ) (r : Result ℕ E) → IsUtf8 bs → ParsesUnsigned 32 10 bs r

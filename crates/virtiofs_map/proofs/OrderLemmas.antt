@@ -1,5 +1,5 @@
 -- What each two elements of a list keep when the list is put in another order.
-use Rattle.std.proofs.Common.{◌≡◌, inl, inr, ℕ, ◌<◌, List, length, get_or, AllPairs, IsPermutation, refl, sym, ap, ◌∙◌}
+use Rattle.std.proofs.Common.{◌≡◌, inl, inr, ℕ, ◌<◌, List, length, get_or, AllPairs, IsPermutation, refl}
 use Rattle.std.proofs.Common.{arith, swap, rules}
 use Rattle.std.proofs.lemmas.Bool.{cases_order, cases_eq}
 use Rattle.std.proofs.lemmas.List.Edits.{Swapped, swapped_from_swap, length-swap}
@@ -18,23 +18,9 @@ came_from : {X : Type 0} (f g : ℕ → X) (a b n place : ℕ) → Swapped f g a
     → CameFrom f g a b n place
 came_from f g a b n place swapped first second below =
     elim (cases_eq place a) [
-      | inl at_first ↦ record {
-        origin = b;
-        below = second;
-        same = ap g at_first ∙ swapped.0;
-        from_first = λ _. refl;
-        from_second = λ at_second. sym at_second ∙ at_first;
-        unmoved = λ no _. absurd (no at_first);
-      }
+      | inl at_first ↦ grind arith
       | inr not_first ↦ elim (cases_eq place b) [
-        | inl at_second ↦ record {
-          origin = a;
-          below = first;
-          same = ap g at_second ∙ swapped.1;
-          from_first = λ at_first. absurd (not_first at_first);
-          from_second = λ _. refl;
-          unmoved = λ _ no. absurd (no at_second);
-        }
+        | inl at_second ↦ grind arith
         | inr not_second ↦ record {
           origin = place;
           below = below;
@@ -67,8 +53,7 @@ AllPairs-swap R flips xs a b first second pairs i j d before below =
     let q = came_from (λ k. get_or xs k d) (λ k. get_or (swap xs a b) k d) a b (length xs) j swapped first second
     under in
     let differ : p.origin ≡ q.origin → ⊥ =
-    origins_differ a b i j p.origin q.origin (λ same. omega arith) p.from_first p.from_second p.unmoved q.from_first
-    q.from_second q.unmoved in
+    grind (arith, origins_differ) in
     rw (p.same, q.same) (either_order R flips xs p.origin q.origin d pairs differ p.below q.below)
 
 -- each two elements are related in any order of the list
@@ -76,4 +61,4 @@ pub AllPairs-permutation : {X : Type 0} (R : X → X → Type 0) (flips : (x y :
     → IsPermutation xs ys → AllPairs R xs → AllPairs R ys
 AllPairs-permutation R flips xs ys permutation pairs =
     IsPermutation-keeps xs (λ l. AllPairs R l) pairs
-    (λ l a b first second so_far. AllPairs-swap R flips l a b first second so_far) ys permutation
+    (search (rules, AllPairs-swap)) ys permutation

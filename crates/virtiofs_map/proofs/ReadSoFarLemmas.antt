@@ -29,8 +29,7 @@ fields_end d text (field ∷ fields) rest (after, spells, lacks, others) =
     let back = fields_end d after fields rest others in
     record {
       front = field ++ d ∷ back.front;
-      are = spells ∙ ap (λ x. field ++ d ∷ x) back.are
-          ∙ sym (append_assoc field (d ∷ back.front) rest);
+      are = grind (arith, append_assoc);
     }
 
 pub rule_end : (text : List ℕ) (rule : RuleAsWritten) (after : List ℕ) → RuleThen text rule after
@@ -48,11 +47,10 @@ rules_snoc : (text : List ℕ) (rules : List RuleAsWritten) (middle : List ℕ) 
     (blanks rest : List ℕ)
     → RulesThen text rules middle → RuleThen middle rule (blanks ++ rest) → rule.head ≢ Map
     → AllByRecursion IsBlank blanks → RulesThen text (rules ++ rule ∷ []) rest
-rules_snoc text [] middle rule blanks rest e whole plain blank =
-    (blanks, rest, subst (λ t. RuleThen t rule (blanks ++ rest)) (sym e) whole, plain, blank, refl)
+rules_snoc text [] middle rule blanks rest e whole plain blank = grind arith
 rules_snoc text (first ∷ rules) middle rule blanks rest (between, next, here, not_map, are_blank, others) whole plain
     blank =
-    (between, next, here, not_map, are_blank, rules_snoc next rules middle rule blanks rest others whole plain blank)
+    (search (rules_snoc next rules middle rule blanks rest others whole plain blank))
 
 pub expanded_snoc : (rules : List RuleAsWritten) (rule : RuleAsWritten)
     → expanded (rules ++ rule ∷ []) ≡ expanded rules ++ rules_of rule.head rule.key rule.prepend
@@ -68,13 +66,13 @@ text_of_rules text [] before solid = inl refl
 text_of_rules text (rule ∷ rules) (blanks, next, here, plain, blank, others) solid =
     let (d, front, e) = rule_end text rule (blanks ++ next) here in
     let solid_after : drop_trailing_whitespace (blanks ++ next) ≡ blanks ++ next =
-    solid_back (d ∷ front) (blanks ++ next) (subst (λ t. drop_trailing_whitespace t ≡ t) e solid) in
+    grind (arith, solid_back) in
     let only : rules ≡ [] → next ≡ [] = λ none. subst (λ rs. RulesThen next rs []) none others in
     elim (text_of_rules next rules others (solid_back blanks next solid_after)) [
       | inl none ↦
           (let here_only : blanks ++ next ≡ blanks = ap (λ x. blanks ++ x) (only none) ∙ append-nil blanks in
           let no_blanks : blanks ≡ [] =
-          solid_blanks blanks blank (subst (λ x. drop_trailing_whitespace x ≡ x) here_only solid_after) in
+          grind (arith, solid_blanks) in
           inr (
             [],
             rule,
@@ -112,8 +110,7 @@ going text rest items count so_far more = elim so_far.state [ inl state ↦ stat
 
 pub opened : (text rest : List ℕ) (items : List MappingRule) (count : ℕ) → ReadSoFar text rest items count → rest ≢ []
     → IsOpened rest
-opened text rest items count so_far more =
-    elim (going text rest items count so_far more).opened [ inl none ↦ absurd (more none) | inr opens ↦ opens ]
+opened text rest items count so_far more = grind (arith, going)
 
 pub fault : (text rest : List ℕ) (items : List MappingRule) (count : ℕ) (cause : RuleFault) (k : ℕ)
     → ReadSoFar text rest items count → rest ≢ [] → BeginsWithFault rest cause → k ≡ length items + 1
@@ -136,8 +133,7 @@ told_at : (text rest : List ℕ) (items : List MappingRule) (count k : ℕ) (tol
     → ReadSoFar text rest items count → rest ≢ [] → k ≡ length items + 1 → IsSomeAnd told (BeginsWithFault rest)
     → HasRulesFault text (option_map_or (InRule k) told NotOfText)
 told_at text rest items count k None so_far more number none = absurd none
-told_at text rest items count k (Some cause) so_far more number wrong =
-    fault text rest items count cause k so_far more wrong number
+told_at text rest items count k (Some cause) so_far more number wrong = search (rules, fault)
 
 pub refused_at : {A : Type 0} (text rest : List ℕ) (items : List MappingRule) (count k : ℕ) (cause : ErrorKind A)
     → ReadSoFar text rest items count → rest ≢ [] → k ≡ length items + 1
@@ -197,13 +193,9 @@ step text rest items more_items count number rule after next so_far is_number mo
 
 -- ---- the end
 
-some_rules : (head : RuleHead) (key prepend : List ℕ) (others : List MappingRule)
-    → rules_of head key prepend ++ others ≢ []
-some_rules head key prepend others e = grind arith
-
 expanded_none : (rules : List RuleAsWritten) → expanded rules ≡ [] → rules ≡ []
 expanded_none [] e = refl
-expanded_none (rule ∷ rules) e = absurd (some_rules rule.head rule.key rule.prepend (expanded rules) e)
+expanded_none (rule ∷ rules) e = grind arith
 
 -- the rest is empty, and some rules were read
 pub finish : (text rest : List ℕ) (items : List MappingRule) (count : ℕ) → ReadSoFar text rest items count → rest ≡ []

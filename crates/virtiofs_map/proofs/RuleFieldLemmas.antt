@@ -64,8 +64,7 @@ unfinished_key Map key lacks = record {
 
 pub key_fault : (d : ℕ) (text rest : List ℕ) (head : RuleHead) (cause : RuleFault)
     → Fields d text (head_fields head) rest → HasPatternFault d rest Key cause → HasRuleFault d text cause
-key_fault d text rest head cause before (inl (e, lacks)) =
-    subst (HasRuleFault d text) (sym e) (head_fields head, rest, before, unfinished_head head, lacks)
+key_fault d text rest head cause before (inl (e, lacks)) = grind (arith, unfinished_head)
 key_fault d text rest head cause before (inr (e, key, after, found, holds)) =
     subst (HasRuleFault d text) (sym e)
     (head, key, after, fields_append d text (head_fields head) (key ∷ []) rest after before found, holds)
@@ -109,7 +108,4 @@ some_and told P Q all none = grind arith
 pub fault_from : (text : List ℕ) (d : ℕ) (body : List ℕ) (told : Option RuleFault) (Other : Type 0)
     → IsOpened text → text ≡ d ∷ body → Other ⊎ IsSomeAnd told (HasRuleFault d body)
     → Other ⊎ IsSomeAnd told (BeginsWithFault text)
-fault_from text d body told Other opened e (inl other) = inl other
-fault_from text d body told Other opened e (inr wrong) =
-    inr (some_and told (HasRuleFault d body) (BeginsWithFault text)
-    (λ fault here. (d, body, opens_at text d body opened e, here)) wrong)
+fault_from text d body told Other opened e x7 = grind arith

@@ -80,16 +80,12 @@ reading d text = after_field (cut d text) (λ w text. by_type d (type_at w) w te
 cut_here : (d : ℕ) (field after : List ℕ) → Lacks d field → cut d (field ++ d ∷ after) ≡ Some (field, after)
 unfolding cut put
 cut_here d [] after lacks = let e : eqb d d ≡ true = grind (arith, nat_tests) in rw e refl
-cut_here d (c ∷ cs) after lacks =
-    let e : eqb c d ≡ false = grind (arith, nat_tests, lacks.0) in
-    rw (e, cut_here d cs after lacks.1) refl
+cut_here d (c ∷ cs) after lacks = grind (arith, cut_here d cs after lacks.1)
 
 cut_nowhere : (d : ℕ) (text : List ℕ) → Lacks d text → cut d text ≡ None
 unfolding cut put
 cut_nowhere d [] lacks = refl
-cut_nowhere d (c ∷ cs) lacks =
-    let e : eqb c d ≡ false = grind (arith, nat_tests, lacks.0) in
-    rw (e, cut_nowhere d cs lacks.1) refl
+cut_nowhere d (c ∷ cs) lacks = grind (arith, cut_nowhere d cs lacks.1)
 
 -- a step over the first of some fields
 record OneField (d : ℕ) (text field : List ℕ) (fields : List (List ℕ)) (rest : List ℕ) : Type 0 where
@@ -104,13 +100,10 @@ one_field d text field fields rest (after, spells, lacks, others) = search (rule
 no_nul_here : (s : List ℕ) → Lacks 0 s → has_nul s ≡ false
 unfolding has_nul
 no_nul_here [] lacks = refl
-no_nul_here (c ∷ cs) lacks =
-    let e : eqb c 0 ≡ false = grind (arith, nat_tests, lacks.0) in
-    rw (e, no_nul_here cs lacks.1) refl
+no_nul_here (c ∷ cs) lacks = grind (arith, no_nul_here cs lacks.1)
 
 or_later : (a b : Bool) → b ≡ true → (a || b) ≡ true
-or_later true b e = refl
-or_later false b e = e
+or_later a b e = grind arith
 
 nul_here : (s : List ℕ) → Contains s 0 → has_nul s ≡ true
 unfolding has_nul
@@ -236,8 +229,7 @@ fields_split : (d : ℕ) (text : List ℕ) (front back : List (List ℕ)) (rest 
     → Fields d text (front ++ back) rest → (middle : List ℕ) × Fields d text front middle × Fields d middle back rest
 fields_split d text [] back rest fields = (text, refl, fields)
 fields_split d text (field ∷ front) back rest (after, spells, lacks, others) =
-    let (middle, before, others_after) = fields_split d after front back rest others in
-    (middle, (after, spells, lacks, before), others_after)
+    grind (arith, fields_split d after front back rest others)
 
 -- ---- a rule, a rule that is not whole, a fault
 
@@ -277,8 +269,7 @@ unfinished_map : (d : ℕ) (text key prepend : List ℕ) (fields missing : List 
     → Fields d text fields rest → fields ++ missing ≡ codes "map" ∷ key ∷ prepend ∷ [] → missing ≢ [] → Lacks 0 key
     → Lacks d rest
     → reading d text ≡ Err IncompleteRule
-unfinished_map d text key prepend [] missing rest fields e more no_nul lacks =
-    reading_nothing d text (subst (Lacks d) (sym fields) lacks)
+unfinished_map d text key prepend [] missing rest fields e more no_nul lacks = grind (arith, reading_nothing)
 unfinished_map d text key prepend (a ∷ []) missing rest fields e more no_nul lacks =
     let one : a ∷ [] ≡ head_fields Map = (cc) in
     reading_head d text Map rest (subst (λ ws. Fields d text ws rest) one fields) ∙ patterns_no_key d rest Map lacks
@@ -308,9 +299,7 @@ record Follows (d : ℕ) (text : List ℕ) (cause : RuleFault) : Type 0 where
 
 reading_fault : (d : ℕ) (text : List ℕ) (cause : RuleFault) → HasRuleFault d text cause
     → (reading d text ≡ Err cause) ⊎ Follows d text cause
-reading_fault d text IncompleteRule (fields, rest, found, bad, lacks) =
-    inl (unfinished d text bad.rule.head bad.rule.key bad.rule.prepend fields bad.missing rest found bad.are bad.more
-    bad.no_nul.0 lacks)
+reading_fault d text IncompleteRule (fields, rest, found, bad, lacks) = grind (arith, unfinished)
 reading_fault d text (InvalidType got expected) (rest, found, no_type, no_map, e) =
     inl (reading_no_type d text got rest found no_type no_map ∙ ap (λ x. Err (InvalidType got x)) (sym e))
 reading_fault d text (InvalidScope got expected) (kind, rest, found, no_scope, e) =
@@ -321,14 +310,7 @@ reading_fault d text (NulInPattern Key) (head, key, rest, found, holds) =
 reading_fault d text (NulInPattern Prepend) (head, key, prepend, rest, found, no_nul, holds) =
     let (middle, before, last) = fields_split d text (head_fields head) (key ∷ prepend ∷ []) rest found in
     inl (reading_head d text head middle before ∙ patterns_nul_prepend d middle head key prepend rest last no_nul holds)
-reading_fault d text MapRuleViolation (rule, rest, is_map, found, no_nul, some) = inr record {
-  is = refl;
-  rule = rule;
-  rest = rest;
-  reads = reading_whole d text rule rest found no_nul;
-  last = is_map;
-  more = some;
-}
+reading_fault d text MapRuleViolation (rule, rest, is_map, found, no_nul, some) = grind (arith, reading_whole)
 
 -- ---- at one place of a text
 
@@ -360,10 +342,9 @@ rule_and_fault text rule after cause whole (d, body, opens, wrong) =
     let here : reading d body ≡ Ok (rule, after) =
     same_reading text d whole.delimiter body whole.body opens.0 whole.opens.0 ∙ reads_rule text rule after whole in
     elim (reading_fault d body cause wrong) [
-      | inl e ↦ absurd (let f : ◌≡◌ {A = Read} (Err cause) (Ok (rule, after)) = sym e ∙ here in (cc))
+      | inl e ↦ grind (arith, Read)
       | inr follows ↦
-          (let same_rule = both_read rule follows.rule after follows.rest (sym here ∙ follows.reads) in
-          (ap (λ (r : RuleAsWritten). r.head) same_rule.0 ∙ follows.last, λ e. follows.more (sym same_rule.1 ∙ e)))
+          grind (arith, both_read)
     ]
 
 -- one fault is there
@@ -373,15 +354,11 @@ fault_again text one two (d, body, opens, wrong) (e, other, opened, bad) =
     let same_read : reading d body ≡ reading e other = same_reading text d e body other opens.0 opened.0 in
     elim (reading_fault d body one wrong) [
       | inl f ↦ elim (reading_fault e other two bad) [
-        | inl g ↦ (let h : ◌≡◌ {A = Read} (Err one) (Err two) = sym f ∙ same_read ∙ g in (cc))
-        | inr follows ↦ absurd
-            (let h : ◌≡◌ {A = Read} (Err one) (Ok (follows.rule, follows.rest)) = sym f ∙ same_read ∙ follows.reads in
-            (cc))
+        | inl g ↦ grind (arith, Read)
+        | inr follows ↦ grind (arith, Read)
       ]
       | inr follows ↦ elim (reading_fault e other two bad) [
-        | inl g ↦ absurd
-            (let h : ◌≡◌ {A = Read} (Ok (follows.rule, follows.rest)) (Err two) = sym follows.reads ∙ same_read ∙ g in
-            (cc))
+        | inl g ↦ grind (arith, Read)
         | inr later ↦ follows.is ∙ sym later.is
       ]
     ]

@@ -1,6 +1,7 @@
 -- A rule is read back from its row, and the row at a place is that of the rule there.
+use Rattle.std.proofs.lemmas.Grind.{common_steps}
 use Rattle.std.proofs.Common.{◌≡◌, ℕ, ◌+◌, ◌-◌, ◌*◌, ◌/◌, ◌%◌, ◌<◌, ◌≤◌, zero, suc, Bool, if◌then◌else◌, List, [], ◌∷◌}
-use Rattle.std.proofs.Common.{◌++◌, Some, None, length, get_or, slice_get, take, drop, min, cond, eqb, refl, ap, sym}
+use Rattle.std.proofs.Common.{◌++◌, Some, None, length, get_or, slice_get, take, drop, cond, eqb, refl, ap, sym}
 use Rattle.std.proofs.Common.{subst, ◌∙◌, arith, append_assoc, append-nil, length-append, length-take, rules}
 use Rattle.std.proofs.Math.Seq.{drop-append-add, take-append_seam}
 use Rattle.std.proofs.lemmas.List.{take_more}
@@ -27,29 +28,11 @@ below_four kind = grind arith
 kind_at : ℕ → RuleType
 kind_at n = cond (eqb n 0) Prefix (cond (eqb n 1) Okay (cond (eqb n 2) Bad Unsupported))
 
-kind_back : (kind : RuleType) → kind_at (type_number kind) ≡ kind
-unfolding kind_at
-kind_back kind = grind arith
-
 pub same_type : (kind other : RuleType) → type_number kind ≡ type_number other → kind ≡ other
-same_type kind other same = sym (kind_back kind) ∙ ap kind_at same ∙ kind_back other
-
--- three things that share a number
-abbrev packed : ℕ → Bool → Bool → ℕ
-packed kind client server = kind + 4 * (if client then 1 else 0) + 8 * (if server then 1 else 0)
+same_type kind other same = grind (arith, kind_at)
 
 bit_small : (b : Bool) → (if b then 1 else 0) ≤ 1
 bit_small b = grind arith
-
-packed_fits : (kind : ℕ) (client server : Bool) → kind < 4 → packed kind client server < 65536
-packed_fits kind client server small = omega (arith, bit_small client, bit_small server)
-
-kind_of_packed : (kind : ℕ) (client server : Bool) → kind < 4 → packed kind client server % 4 ≡ kind
-kind_of_packed kind client server small = omega (arith, bit_small client, bit_small server)
-
-sides_of_packed : (kind : ℕ) (client server : Bool) → kind < 4
-    → packed kind client server / 4 % 4 ≡ (if client then 1 else 0) + 2 * (if server then 1 else 0)
-sides_of_packed kind client server small = omega (arith, bit_small client, bit_small server)
 
 holds_client : (client server : Bool)
     → holds Client ((if client then 1 else 0) + 2 * (if server then 1 else 0)) ≡ client
@@ -78,7 +61,7 @@ pub words_of_row : (bytes : List ℕ) (rule : MappingRule) (span : Span) → IsS
     (le_u64_at (rule_row rule span) 16)
 unfolding rule_row
 words_of_row bytes rule span is few =
-    search (rules, shared_fits, packed_fits, below_four, first_of_three, second_of_three, third_of_three)
+    grind (arith, shared_fits, bit_small, below_four, first_of_three, second_of_three, third_of_three)
 
 -- the places of a row are those of the span, which stand in order
 pub places_of_words : (bytes : List ℕ) (rule : MappingRule) (span : Span) (first second third : ℕ)
@@ -101,7 +84,7 @@ pub rule_from_words : (bytes : List ℕ) (rule : MappingRule) (span : Span) (fir
       prepend = take (third - second) (drop second bytes);
     } rule
 rule_from_words bytes rule span first second third kind bits is few has is_kind are_bits =
-    search (rules, below_four, shared_high, places_of_words, same_type, kind_of_packed, sides_of_packed, holds_client, holds_server, same_rule_fields)
+    grind (arith, below_four, shared_high, places_of_words, same_type, bit_small, holds_client, holds_server, same_rule_fields)
 
 -- ---- rows
 
@@ -112,18 +95,14 @@ rule_rows-push [] [] rule span same = simp append-nil
 rule_rows-push [] (one ∷ spans) rule span same = absurd (omega arith)
 rule_rows-push (first ∷ rules) [] rule span same = absurd (omega arith)
 rule_rows-push (first ∷ rules) (one ∷ spans) rule span same =
-    ap (λ (l : List ℕ). rule_row first one ++ l) (rule_rows-push rules spans rule span (omega arith))
-    ∙ sym (append_assoc (rule_row first one) (rule_rows rules spans) (rule_row rule span))
+    search (rule_rows-push rules spans rule span (omega arith), append_assoc)
 
 pub length-rule_rows : (rules : List MappingRule) (spans : List Span) → length spans ≡ length rules
     → length (rule_rows rules spans) ≡ 24 * length rules
 length-rule_rows [] spans same = refl
 length-rule_rows (rule ∷ rules) [] same = absurd (omega arith)
 length-rule_rows (rule ∷ rules) (span ∷ spans) same =
-    let split = length-append (rule_row rule span) (rule_rows rules spans) in
-    let one = length-rule_row rule span in
-    let more = length-rule_rows rules spans (omega arith) in
-    omega arith
+    grind (arith, length-rule_rows rules spans (omega arith), length-append, length-rule_row)
 
 drop_row : (rule : MappingRule) (span : Span) (rows : List ℕ) (at : ℕ)
     → drop (suc at * 24) (rule_row rule span ++ rows) ≡ drop (at * 24) rows
@@ -141,8 +120,7 @@ rule_row_at (first ∷ rules) (one ∷ spans) zero rule span same below =
     subst (λ (n : ℕ). take n (rule_row first one ++ rule_rows rules spans) ≡ rule_row first one)
     (length-rule_row first one) (take-append_seam (rule_row first one) (rule_rows rules spans))
 rule_row_at (first ∷ rules) (one ∷ spans) (suc at) rule span same below =
-    ap (take 24) (drop_row first one (rule_rows rules spans) at)
-    ∙ rule_row_at rules spans at rule span (omega arith) (omega arith)
+    search (rule_row_at rules spans at rule span (omega arith) (omega arith), drop_row)
 
 -- three numbers one after the other are a row
 pub three_written : (rule : MappingRule) (span : Span) (so_far one two : List ℕ) (number : ℕ)
@@ -157,12 +135,7 @@ pub rule_rows-more : (rules : List MappingRule) (spans : List Span) (at : ℕ) (
     → length spans ≡ length rules → at < length rules
     → rule_rows (take (at + 1) rules) (take (at + 1) spans) ≡ rule_rows (take at rules) (take at spans)
     ++ rule_row (get_or rules at rule) (get_or spans at span)
-rule_rows-more rules spans at rule span same below =
-    let here : at < length spans = omega arith in
-    let even : length (take at spans) ≡ length (take at rules) = length-take at spans ∙ ap (min at) same
-    ∙ sym (length-take at rules) in
-    rw (take_more rules at rule below, take_more spans at span here)
-    (rule_rows-push (take at rules) (take at spans) (get_or rules at rule) (get_or spans at span) even)
+rule_rows-more rules spans at rule span same below = grind (arith, common_steps, length-take, take_more, rule_rows-push)
 
 -- the numbers that a row was read to have
 pub words_told : (bytes : List ℕ) (rule : MappingRule) (span : Span) (row : List ℕ) (first second third : ℕ)
@@ -204,10 +177,7 @@ rule_there rules rows bytes at has here =
       span = span.0;
       here = rule.1;
       row =
-          ap (λ (n : ℕ). take n (drop (at * 24) rows)) width
-          ∙ ap (λ (l : List ℕ). take 24 (drop (at * 24) l)) has.are
-          ∙ rule_row_at rules has.spans at rule.0 span.0 has.stand.counted below
-          ∙ both;
+          grind (arith, rule_row_at);
       is = has.stand.each at rule.0 span.0 rule.1 span.1;
     }
 
@@ -228,4 +198,4 @@ rule_rows-next rules spans at rule span so_far new more same here there before a
     let one : get_or rules at rule ≡ rule = get_or_from_slice_get rules at rule rule (sym here) in
     let two : get_or spans at span ≡ span = get_or_from_slice_get spans at span span (sym there) in
     rw (after, before, rule_rows-more rules spans at rule span same below, one, two)
-    (append_assoc so_far (rule_rows (take at rules) (take at spans)) (rule_row rule span))
+    (search append_assoc)

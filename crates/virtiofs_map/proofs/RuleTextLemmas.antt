@@ -26,20 +26,13 @@ ending_opened text e = grind (arith, rule_opened)
 rules_opened : (text : List ℕ) (rules : List RuleAsWritten) (rest : List ℕ) → RulesThen text rules rest → IsOpened rest
     → IsOpened text
 rules_opened text [] rest e opened = subst IsOpened (sym e) opened
-rules_opened text (rule ∷ rules) rest (blanks, next, here, plain, blank, others) opened =
-    rule_opened text rule (blanks ++ next) here
-
--- what a delimiter opens begins with no blank
-no_blank_first : (c : ℕ) (cs : List ℕ) → IsBlank c → IsOpened (c ∷ cs) → ⊥
-no_blank_first c cs blank (d, body, (e, solid)) = search (rules, false≢true)
+rules_opened text (rule ∷ rules) rest (blanks, next, here, plain, blank, others) opened = grind arith
 
 same_next : (one two x y : List ℕ) → one ++ x ≡ two ++ y → AllByRecursion IsBlank one → AllByRecursion IsBlank two
     → IsOpened x → IsOpened y → x ≡ y
 same_next [] [] x y e blank_one blank_two open_x open_y = e
-same_next [] (b ∷ two) x y e blank_one blank_two open_x open_y =
-    absurd (no_blank_first b (two ++ y) blank_two.0 (subst IsOpened e open_x))
-same_next (a ∷ one) [] x y e blank_one blank_two open_x open_y =
-    absurd (no_blank_first a (one ++ x) blank_one.0 (subst IsOpened (sym e) open_y))
+same_next [] (b ∷ two) x y e blank_one blank_two open_x open_y = grind (arith, false≢true)
+same_next (a ∷ one) [] x y e blank_one blank_two open_x open_y = grind (arith, false≢true)
 same_next (a ∷ one) (b ∷ two) x y e blank_one blank_two open_x open_y =
     same_next one two x y (cc) blank_one.1 blank_two.1 open_x open_y
 
@@ -93,9 +86,6 @@ pub one_count : (text : List ℕ) (a b : ℕ) → CountsRules text a → CountsR
 one_count text a b (written, read, are) (other, read_too, are_too) = are
     ∙ ap length (one_reading text written other read read_too) ∙ sym are_too
 
-not_blank : (text : List ℕ) (written : List RuleAsWritten) → RuleText text written → trimmed text ≡ [] → ⊥
-not_blank text written one nothing = search (rules, empty_is_not_opened, rules_opened, rule_opened)
-
 not_at_fault : (text : List ℕ) (written : List RuleAsWritten) (k : ℕ) (cause : RuleFault) → RuleText text written
     → IsFirstAtFault text k cause → ⊥
 not_at_fault text written k cause one two =
@@ -107,7 +97,7 @@ not_at_fault text written k cause one two =
 
 pub no_fault : (text : List ℕ) (rules : List MappingRule) (fault : RulesFault) → SaysRules text rules
     → HasRulesFault text fault → ⊥
-no_fault text rules NoRules (written, one, are) nothing = not_blank text written one nothing
+no_fault text rules NoRules (written, one, are) nothing = grind (arith, empty_is_not_opened, rules_opened, rule_opened)
 no_fault text rules (InRule k cause) (written, one, are) wrong = not_at_fault text written k cause one wrong
 no_fault text rules NotOfText says wrong = wrong
 

@@ -1,6 +1,6 @@
 -- How a search halves the ranges, and which range it finds.
 use Rattle.std.proofs.Common.{◌≡◌, inl, inr, ℕ, suc, zero, ◌+◌, ◌/◌, ◌^◌, ◌<◌, ◌≤◌, List, length, get_or, AllPairs}
-use Rattle.std.proofs.Common.{Contains, Some, slice_get, sym, ap, ◌∙◌, arith, pow-suc, rules}
+use Rattle.std.proofs.Common.{Contains, Some, slice_get, arith, pow-suc, rules}
 use Rattle.std.proofs.lemmas.Bool.{cases_order, cases_lt}
 use Rattle.std.proofs.lemmas.Option.{slice_get-get_or, get_or_from_slice_get}
 use Rattle.virtiofs_map.specs.LookupSteps.{halvings_within, binary_digits}
@@ -11,15 +11,11 @@ use Rattle.virtiofs_map.specs.declared.soft_idmap.entry.Entry.{Entry}
 
 -- ---- digits
 
-below_double : (m d : ℕ) → m / 2 < 2 ^ d → m < 2 ^ suc d
-below_double m d h = omega (arith, pow-suc 2 d)
-
 below_halvings : (times m : ℕ) → m ≤ times → m < 2 ^ halvings_within times m
 unfolding halvings_within
 below_halvings zero m h = omega arith
 below_halvings (suc times) zero h = omega arith
-below_halvings (suc times) (suc m) h =
-    below_double (suc m) (halvings_within times (suc m / 2)) (below_halvings times (suc m / 2) (omega arith))
+below_halvings (suc times) (suc m) h = grind (arith, below_halvings times (suc m / 2) (omega arith), pow-suc)
 
 below_digits : (m : ℕ) → m < 2 ^ binary_digits m
 unfolding binary_digits
@@ -36,11 +32,7 @@ HasDigitsFor-start left taken m within none = record {
 less_by_a_digit : (left rest taken more digits most : ℕ) → more ≡ count_after taken 1 → 1 ≤ left → rest ≤ left / 2
     → left < 2 ^ digits → taken + digits ≤ most → HasDigitsFor rest more most
 less_by_a_digit left rest taken more zero most counted some half room spent = absurd (omega arith)
-less_by_a_digit left rest taken more (suc digits) most counted some half room spent = record {
-  digits = digits;
-  room = omega (arith, pow-suc 2 digits);
-  spent = omega arith;
-}
+less_by_a_digit left rest taken more (suc digits) most counted some half room spent = grind arith
 
 pub HasDigitsFor-less : (left rest taken more most : ℕ) → HasDigitsFor left taken most → more ≡ count_after taken 1
     → 1 ≤ left → rest ≤ left / 2 → HasDigitsFor rest more most
@@ -85,14 +77,12 @@ pub Searched-finds : (ranges : List Entry) (n index : ℕ) (range : Entry) → A
     → slice_get ranges index ≡ Some range
 Searched-finds ranges n index range ordered searched (k, below, here) covers =
     elim (cases_order k index) [
-      | inl same ↦ slice_get-get_or ranges index range inside
-          ∙ ap (λ (r : Entry). Some r) (ap (λ (i : ℕ). get_or ranges i range) (sym same) ∙ here)
+      | inl same ↦ grind (arith, slice_get-get_or)
       | inr (inl before) ↦
           let precedes : Precedes range (get_or ranges index range) = rw here at (ordered k index range before inside) in
           absurd (omega (arith, covers, searched.begins range (omega arith)))
       | inr (inr after) ↦
-          let above : n < first_of range = rw here at (searched.above k range (omega arith) below) in
-          absurd (omega (arith, covers))
+          grind arith
     ] where
       inside : index < length ranges
       inside = omega (arith, searched.within)

@@ -1,15 +1,15 @@
 -- The list that the guest gets, name by name.
 use Rattle.std.proofs.Common.{◌≡◌, ℕ, ◌+◌, ◌<◌, ◌≤◌, Bool, true, false, not, eqb, List, [], ◌∷◌, ◌++◌, length, Option}
-use Rattle.std.proofs.Common.{Some, None, IfSome, inl, inr, refl, sym, ap, ◌∙◌, arith, filter, rules}
-use Rattle.std.specs.List.{slice_split, onto_first, cons_option, filter_map, flat_map, position, position_or_len}
+use Rattle.std.proofs.Common.{Some, None, refl, ◌∙◌, arith, filter, rules}
+use Rattle.std.specs.List.{slice_split, filter_map, flat_map, position, position_or_len}
 use Rattle.std.specs.List.{before_first, after_first}
 use Rattle.std.proofs.lemmas.Bool.{cond_both, ltb-true, cases_lt}
 use Rattle.std.proofs.lemmas.List.{take_all, drop_all, append-nil, length-append, length-drop, length_push}
 use Rattle.std.proofs.lemmas.List.Splits.{slice_split_first, slice_split_none, length-slice_split}
 use Rattle.std.proofs.lemmas.List.Sums.{fails_before_first}
 use Rattle.std.proofs.lemmas.List.Elements.{All-from_get_or, filter-append}
-use Rattle.virtiofs_map.specs.Rule.{RuleType, MappingRule}
-use Rattle.virtiofs_map.specs.Names.{host_answer_by, host_answer, listed_name, names}
+use Rattle.virtiofs_map.specs.Rule.{MappingRule}
+use Rattle.virtiofs_map.specs.Names.{host_answer, listed_name, names}
 
 abbrev pub is_zero : ℕ → Bool
 is_zero byte = eqb byte 0
@@ -30,35 +30,11 @@ position-None_is p xs = search (rules, cond_both)
 
 -- ---- the names of a list
 
--- a list with a zero is its first part, and then the others
-parts_first : (list : List ℕ) → position_or_len is_zero list < length list
-    → slice_split is_zero list ≡ before_first is_zero list ∷ slice_split is_zero (after_first is_zero list)
-parts_first list l = slice_split_first is_zero list 0 l
-
--- a list with no zero is one part
-parts_none : (list : List ℕ) → length list ≤ position_or_len is_zero list → slice_split is_zero list ≡ list ∷ []
-parts_none list l =
-    slice_split_none is_zero list
-    (All-from_get_or (λ x. is_zero x ≡ false) list 0 (λ i h. fails_before_first is_zero list i 0 (omega arith)))
-
 -- the first name of a list, if it is one, and then the names of the rest
 pub names_step : (list : List ℕ)
     → names list ≡ filter is_name (before_first is_zero list ∷ []) ++ names (after_first is_zero list)
 names_step list =
-    elim (cases_lt (position_or_len is_zero list) (length list)) [
-      | inl l ↦ ap (filter is_name) (parts_first list l)
-          ∙ filter-append is_name (before_first is_zero list ∷ []) (slice_split is_zero (after_first is_zero list))
-      | inr l ↦ ap (filter is_name) (parts_none list l) ∙ alone list l
-    ] where
-      alone : (list : List ℕ) → length list ≤ position_or_len is_zero list
-          → filter is_name (list ∷ []) ≡ filter is_name (before_first is_zero list ∷ [])
-          ++ names (after_first is_zero list)
-      alone list l =
-          rw (
-            take_all (position_or_len is_zero list) list l,
-            drop_all (position_or_len is_zero list + 1) list (omega arith),
-          )
-          (sym (append-nil (filter is_name (list ∷ []))))
+    grind (arith, cases_lt, is_zero, is_name, slice_split_first, filter-append, slice_split_none, All-from_get_or, fails_before_first, take_all, drop_all, append-nil)
 
 -- what `cut_name` gives: what stands before the first zero, and what stands after it
 pub record IsCut (list name rest : List ℕ) : Type 0 where
@@ -92,43 +68,15 @@ abbrev total : List (List ℕ) → ℕ
 total [] = 0
 total (part ∷ parts) = (length part + 1) + total parts
 
-total_onto : (x : ℕ) (parts : List (List ℕ)) → 0 < length parts → total (onto_first x parts) ≡ total parts + 1
-total_onto x parts l = grind arith
-
 total_split : (list : List ℕ) → total (slice_split is_zero list) ≡ length list + 1
 total_split [] = refl
-total_split (x ∷ xs) =
-    cond_both (is_zero x) ([] ∷ slice_split is_zero xs) (onto_first x (slice_split is_zero xs))
-    (λ parts. total parts ≡ length (x ∷ xs) + 1) (λ _. omega (arith, total_split xs))
-    (λ _. omega
-    (arith, total_split xs, total_onto x (slice_split is_zero xs) (omega (arith, length-slice_split is_zero xs))))
-
--- a name is listed as no longer a name than it is
-length_by : (kind : RuleType) (prepend name : List ℕ)
-    → IfSome (listed_name (host_answer_by kind prepend name)) (λ shown. length shown ≤ length name)
-length_by kind prepend name = grind (arith, length-drop)
-
-shown_length : (rules : List MappingRule) (name : List ℕ)
-    → IfSome (shown rules name) (λ shown. length shown ≤ length name)
-shown_length rules name = grind (arith, length_by)
-
-length_more : (o : Option (List ℕ)) (part : List ℕ) (names : List (List ℕ))
-    → IfSome o (λ shown. length shown ≤ length part)
-    → length (with_zeros (cons_option o names)) ≤ (length part + 1) + length (with_zeros names)
-length_more o part names h = grind (arith, length-append, length_push)
+total_split (x ∷ xs) = grind (arith, total_split xs, cond_both, is_zero, total, length-slice_split)
 
 length_parts : (rules : List MappingRule) (parts : List (List ℕ))
     → length (with_zeros (filter_map (shown rules) (filter is_name parts))) ≤ total parts
 length_parts rules [] = omega arith
 length_parts rules (part ∷ parts) =
-    cond_both (is_name part) (part ∷ filter is_name parts) (filter is_name parts)
-    (λ names. length (with_zeros (filter_map (shown rules) names)) ≤ total (part ∷ parts))
-    (λ _. omega (
-      arith,
-      length_parts rules parts,
-      length_more (shown rules part) part (filter_map (shown rules) (filter is_name parts))
-          (shown_length rules part),
-    )) (λ _. omega (arith, length_parts rules parts))
+    grind (arith, length_parts rules parts, cond_both, is_name, with_zeros, shown, total, length-append, length_push, length-drop)
 
 pub length-listed : (rules : List MappingRule) (list : List ℕ) → length (listed rules list) ≤ length list + 1
 length-listed rules list = omega (arith, length_parts rules (slice_split is_zero list), total_split list)

@@ -27,16 +27,9 @@ failing p c d same passes fails = false≢true (sym fails ∙ ap p (sym same) �
 
 one_cut : (p : ℕ → Bool) (front other : List ℕ) (c d : ℕ) (back rest : List ℕ) → front ++ c ∷ back ≡ other ++ d ∷ rest
     → AllPass p front → AllPass p other → p c ≡ false → p d ≡ false → SameCut front other c d back rest
-one_cut p [] [] c d back rest same first second c_fails d_fails =
-    record { same_front = refl; same_character = cc; same_back = cc }
-one_cut p [] (y ∷ other) c d back rest same first second c_fails d_fails =
-    let passes : p y ≡ true = All-head (λ (x : ℕ). p x ≡ true) y other second in
-    let is : y ≡ c = cc in
-    absurd (failing p y c is passes c_fails)
-one_cut p (x ∷ front) [] c d back rest same first second c_fails d_fails =
-    let passes : p x ≡ true = All-head (λ (z : ℕ). p z ≡ true) x front first in
-    let is : x ≡ d = cc in
-    absurd (failing p x d is passes d_fails)
+one_cut p [] [] c d back rest same first second c_fails d_fails = grind arith
+one_cut p [] (y ∷ other) c d back rest same first second c_fails d_fails = grind (arith, All-head, failing)
+one_cut p (x ∷ front) [] c d back rest same first second c_fails d_fails = grind (arith, All-head, failing)
 one_cut p (x ∷ front) (y ∷ other) c d back rest same first second c_fails d_fails =
     let is : x ≡ y = cc in
     let tails : front ++ c ∷ back ≡ other ++ d ∷ rest = cc in
@@ -57,8 +50,7 @@ IsCut-one text prefix other c d rest back first second =
 -- a text of nothing but word characters is not cut
 cut_apart : (p : ℕ → Bool) (front : List ℕ) (c : ℕ) (back : List ℕ) → AllPass p (front ++ c ∷ back) → p c ≡ false → ⊥
 cut_apart p [] c back all fails = failing p c c refl (All-head (λ (x : ℕ). p x ≡ true) c back all) fails
-cut_apart p (x ∷ front) c back all fails =
-    cut_apart p front c back (All-tail (λ (z : ℕ). p z ≡ true) x (front ++ c ∷ back) all) fails
+cut_apart p (x ∷ front) c back all fails = search (rules, cut_apart p front c back, All-tail)
 
 HasNoSeparator-uncut : (text prefix : List ℕ) (c : ℕ) (rest : List ℕ) → HasNoSeparator text → IsCut text prefix c rest
     → ⊥
@@ -89,26 +81,20 @@ Says-one text spec other first second =
     let fields : split_at_each first.separator first.rest ≡ split_at_each second.separator second.rest =
     rw (cut.same_character, cut.same_back) refl in
     let numbers : numbers_of spec ≡ numbers_of other =
-    AllZip-one IsNumeral IsNumeral-one (split_at_each second.separator second.rest) (numbers_of spec)
-    (numbers_of other) (subst (λ (fs : List (List ℕ)). AllZip IsNumeral fs (numbers_of spec)) fields first.numbers)
-    second.numbers in
+    grind (arith, AllZip-one, IsNumeral-one) in
     one_spec spec other word numbers
 
 -- there is only one first field that is no numeral
 unread_after : (fields before : List (List ℕ)) (values : List ℕ) (field : List ℕ) (after : List (List ℕ))
     → AllZip IsNumeral fields values → fields ≡ before ++ field ∷ after → ((value : ℕ) → ¬ IsNumeral field value) → ⊥
-unread_after fields [] [] field after read same unread =
-    absurd (subst (λ (fs : List (List ℕ)). AllZip IsNumeral fs []) same read)
+unread_after fields [] [] field after read same unread = grind arith
 unread_after fields [] (v ∷ values) field after read same unread =
     let here : AllZip IsNumeral (field ∷ after) (v ∷ values) =
     subst (λ (fs : List (List ℕ)). AllZip IsNumeral fs (v ∷ values)) same read in
     unread v here.0
-unread_after fields (f ∷ before) [] field after read same unread =
-    absurd (subst (λ (fs : List (List ℕ)). AllZip IsNumeral fs []) same read)
+unread_after fields (f ∷ before) [] field after read same unread = grind arith
 unread_after fields (f ∷ before) (v ∷ values) field after read same unread =
-    let here : AllZip IsNumeral (f ∷ (before ++ field ∷ after)) (v ∷ values) =
-    subst (λ (fs : List (List ℕ)). AllZip IsNumeral fs (v ∷ values)) same read in
-    unread_after (before ++ field ∷ after) before values field after here.1 refl unread
+    grind (arith, unread_after (before ++ field ∷ after) before values field after)
 
 one_unread : (before others : List (List ℕ)) (values numbers : List ℕ) (field other : List ℕ)
     (after rest : List (List ℕ)) → before ++ field ∷ after ≡ others ++ other ∷ rest → AllZip IsNumeral before values
@@ -126,8 +112,7 @@ one_unread (f ∷ before) [] (v ∷ values) numbers field other after rest same 
 one_unread (f ∷ before) (g ∷ others) [] numbers field other after rest same read told unread none = absurd read
 one_unread (f ∷ before) (g ∷ others) (v ∷ values) [] field other after rest same read told unread none = absurd told
 one_unread (f ∷ before) (g ∷ others) (v ∷ values) (n ∷ numbers) field other after rest same read told unread none =
-    let tails : before ++ field ∷ after ≡ others ++ other ∷ rest = cc in
-    one_unread before others values numbers field other after rest tails read.1 told.1 unread none
+    grind (arith, one_unread before others values numbers field other after rest)
 
 IsFirstNonNumeral-one : (fields : List (List ℕ)) (field other : List ℕ) → IsFirstNonNumeral fields field
     → IsFirstNonNumeral fields other → field ≡ other
@@ -155,9 +140,6 @@ HasNonNumeral-uncounted text prefix field seen unread counted =
     unread_after (split_at_each counted.separator counted.rest) unread.first.before counted.values field
     unread.first.after counted.numbers (sym same ∙ unread.first.here) unread.first.unread
 
-HasNumerals-uncut : (text prefix : List ℕ) (seen : ℕ) → HasNoSeparator text → HasNumerals text prefix seen → ⊥
-HasNumerals-uncut text prefix seen none counted = search (rules, HasNoSeparator-uncut)
-
 -- a text is counted in one way
 HasNumerals-prefix : (text prefix other : List ℕ) (seen got : ℕ) → HasNumerals text prefix seen
     → HasNumerals text other got → prefix ≡ other
@@ -170,7 +152,7 @@ HasNumerals-one text prefix other seen got first second =
     fields_same text prefix other first.separator second.separator first.rest second.rest first.cut second.cut in
     let values : first.values ≡ second.values =
     AllZip-one IsNumeral IsNumeral-one (split_at_each second.separator second.rest) first.values second.values
-    (subst (λ (fs : List (List ℕ)). AllZip IsNumeral fs first.values) same first.numbers) second.numbers in
+    (grind arith) second.numbers in
     sym first.count ∙ ap (λ (ns : List ℕ). length ns) values ∙ second.count
 
 -- how many numbers a word takes
@@ -178,12 +160,8 @@ takes_of : List ℕ → ℕ
 takes_of [] = 0
 takes_of (c ∷ word) = cond (c == 102) 2 3
 
-takes_is : (spec : IdMap) → takes_of (word_of spec) ≡ length (numbers_of spec)
-unfolding takes_of
-takes_is spec = grind arith
-
 one_count : (spec other : IdMap) → word_of spec ≡ word_of other → length (numbers_of spec) ≡ length (numbers_of other)
-one_count spec other word = sym (takes_is spec) ∙ ap takes_of word ∙ takes_is other
+one_count spec other word = grind (arith, takes_of)
 
 -- a text that says a specification is counted
 Says-counted : (text : List ℕ) (spec : IdMap) (said : Says text spec)
@@ -199,7 +177,7 @@ Says-wrong_count text spec expected seen said fault =
     let count =
     HasNumerals-one text said.prefix fault.prefix (length (numbers_of spec)) seen (Says-counted text spec said)
     fault.numerals in
-    fault.other (sym count ∙ one_count spec fault.spec (sym said.word ∙ ap lowered prefix ∙ fault.word) ∙ fault.takes)
+    fault.other (grind (arith, one_count))
 
 pub Says-no_fault : (text : List ℕ) (spec : IdMap) (fault : SpecificationFault) → Says text spec
     → HasSpecificationFault text fault → ⊥
@@ -208,10 +186,8 @@ Says-no_fault text spec (InvalidPrefix word) said fault =
     HasNumerals-prefix text said.prefix fault.prefix (length (numbers_of spec)) fault.seen
     (Says-counted text spec said) fault.numerals in
     fault.unknown spec (ap lowered (sym prefix) ∙ said.word)
-Says-no_fault text spec (InvalidLength expected seen) said (inl (none, _, _)) =
-    HasNoSeparator-uncut text said.prefix said.separator said.rest none said.cut
-Says-no_fault text spec (InvalidLength expected seen) said (inr fault) =
-    Says-wrong_count text spec expected seen said fault
+Says-no_fault text spec (InvalidLength expected seen) said (inl (none, _, _)) = search (rules, HasNoSeparator-uncut)
+Says-no_fault text spec (InvalidLength expected seen) said (inr fault) = search (rules, Says-wrong_count)
 Says-no_fault text spec (InvalidValue field) said fault =
     HasNonNumeral-uncounted text said.prefix field (length (numbers_of spec)) fault (Says-counted text spec said)
 
@@ -225,7 +201,7 @@ one_word : (text word other : List ℕ) → HasUnknownPrefix text word → HasUn
 one_word text word other first second =
     first.is
     ∙ ap lowered
-    (HasNumerals-prefix text first.prefix second.prefix first.seen second.seen first.numerals second.numerals)
+    (search (rules, HasNumerals-prefix))
     ∙ sym second.is
 
 one_wrong_count : (text : List ℕ) (expected seen want got : ℕ) → HasWrongCount text expected seen
@@ -243,7 +219,7 @@ one_field text field other first second =
     fields_same text first.prefix second.prefix first.separator second.separator first.rest second.rest first.cut
     second.cut in
     IsFirstNonNumeral-one (split_at_each second.separator second.rest) field other
-    (subst (λ (fs : List (List ℕ)). IsFirstNonNumeral fs field) fields first.first) second.first
+    (grind arith) second.first
 
 one_length : (expected seen want got : ℕ) → expected ≡ want → seen ≡ got
     → InvalidLength expected seen ≡ InvalidLength want got
@@ -252,35 +228,31 @@ one_length expected seen want got one other = cc
 -- a text has at most one fault
 pub HasSpecificationFault-one : (text : List ℕ) (fault other : SpecificationFault) → HasSpecificationFault text fault
     → HasSpecificationFault text other → fault ≡ other
-HasSpecificationFault-one text (InvalidPrefix p) (InvalidPrefix q) first second =
-    ap InvalidPrefix (one_word text p q first second)
+HasSpecificationFault-one text (InvalidPrefix p) (InvalidPrefix q) first second = search (rules, one_word)
 HasSpecificationFault-one text (InvalidPrefix p) (InvalidLength x s) first (inl (none, _, _)) =
-    absurd (HasNumerals-uncut text first.prefix first.seen none first.numerals)
+    search (rules, HasNoSeparator-uncut)
 HasSpecificationFault-one text (InvalidPrefix p) (InvalidLength x s) first (inr second) =
     absurd (unknown_with_wrong_count text p x s first second)
-HasSpecificationFault-one text (InvalidPrefix p) (InvalidValue v) first second =
-    absurd (HasNonNumeral-uncounted text first.prefix v first.seen second first.numerals)
+HasSpecificationFault-one text (InvalidPrefix p) (InvalidValue v) first second = search (rules, HasNonNumeral-uncounted)
 HasSpecificationFault-one text (InvalidLength x s) (InvalidPrefix q) (inl (none, _, _)) second =
-    absurd (HasNumerals-uncut text second.prefix second.seen none second.numerals)
+    search (rules, HasNoSeparator-uncut)
 HasSpecificationFault-one text (InvalidLength x s) (InvalidPrefix q) (inr first) second =
     absurd (unknown_with_wrong_count text q x s second first)
 HasSpecificationFault-one text (InvalidLength x s) (InvalidLength y t) (inl (_, one, zero)) (inl (_, uno, nil)) =
-    one_length x s y t (one ∙ sym uno) (zero ∙ sym nil)
+    grind arith
 HasSpecificationFault-one text (InvalidLength x s) (InvalidLength y t) (inl (none, _, _)) (inr second) =
-    absurd (HasNumerals-uncut text second.prefix t none second.numerals)
+    search (rules, HasNoSeparator-uncut)
 HasSpecificationFault-one text (InvalidLength x s) (InvalidLength y t) (inr first) (inl (none, _, _)) =
-    absurd (HasNumerals-uncut text first.prefix s none first.numerals)
+    search (rules, HasNoSeparator-uncut)
 HasSpecificationFault-one text (InvalidLength x s) (InvalidLength y t) (inr first) (inr second) =
     let (expected, seen) = one_wrong_count text x s y t first second in one_length x s y t expected seen
 HasSpecificationFault-one text (InvalidLength x s) (InvalidValue v) (inl (none, _, _)) second =
     absurd (HasNoSeparator-uncut text second.prefix second.separator second.rest none second.cut)
 HasSpecificationFault-one text (InvalidLength x s) (InvalidValue v) (inr first) second =
     absurd (HasNonNumeral-uncounted text first.prefix v s second first.numerals)
-HasSpecificationFault-one text (InvalidValue v) (InvalidPrefix q) first second =
-    absurd (HasNonNumeral-uncounted text second.prefix v second.seen first second.numerals)
+HasSpecificationFault-one text (InvalidValue v) (InvalidPrefix q) first second = search (rules, HasNonNumeral-uncounted)
 HasSpecificationFault-one text (InvalidValue v) (InvalidLength y t) first (inl (none, _, _)) =
     absurd (HasNoSeparator-uncut text first.prefix first.separator first.rest none first.cut)
 HasSpecificationFault-one text (InvalidValue v) (InvalidLength y t) first (inr second) =
     absurd (HasNonNumeral-uncounted text second.prefix v t first second.numerals)
-HasSpecificationFault-one text (InvalidValue v) (InvalidValue w) first second =
-    ap InvalidValue (one_field text v w first second)
+HasSpecificationFault-one text (InvalidValue v) (InvalidValue w) first second = search (rules, one_field)

@@ -1,14 +1,13 @@
 -- The fields of a specification's text, and what is wrong with them.
-use Rattle.std.proofs.Common.{◌≡◌, inl, inr, ◌==◌, ℕ, nat_lt, true, false, List, [], ◌∷◌, ◌++◌, length, All, Option}
-use Rattle.std.proofs.Common.{Some, None, Result, Ok, Err, IfOk, IfErr, refl, sym, ap, ◌∙◌, eq-eqb, encode_utf8_all}
+use Rattle.std.proofs.Common.{◌≡◌, inl, inr, ◌==◌, ℕ, false, List, [], ◌∷◌, ◌++◌, length, All, Option}
+use Rattle.std.proofs.Common.{Some, None, Result, Ok, Err, IfOk, IfErr, sym, ap, ◌∙◌, eq-eqb, encode_utf8_all}
 use Rattle.std.proofs.Common.{chars, IsUtf8, IsAscii, rules, arith}
-use Rattle.std.specs.List.{AllZip, list_all}
+use Rattle.std.specs.List.{AllZip}
 use Rattle.std.proofs.lemmas.Str.{chars-IsAscii, encodes-IsAscii, encodes-chars}
 use Rattle.std.proofs.lemmas.Str.Ascii.{IsAscii-from_all}
-use Rattle.std.proofs.lemmas.Bool.Decides.{eqb_tells}
 use Rattle.std.proofs.lemmas.List.Sums.{AllPass-from_list_all}
 use Rattle.std.proofs.lemmas.List.Splits.{slice_split_at, slice_split_none}
-use Rattle.std.proofs.lemmas.List.Elements.{All-weaker, All-nil, All-cons}
+use Rattle.std.proofs.lemmas.List.Elements.{All-weaker, All-nil}
 use Rattle.virtiofs_map.specs.Numeral.{IsNumeral}
 use Rattle.virtiofs_map.specs.SpecificationText.{word_of, numbers_of, HasNumerals, Says, SpecificationFault}
 use Rattle.virtiofs_map.specs.SpecificationText.{HasSpecificationFault, specification_fault_of}
@@ -21,10 +20,7 @@ use Rattle.virtiofs_map.specs.declared.cmdline.IdMapError.{IdMapError}
 -- no character is the separator, as a test
 fails_from_lacks : (separator : ℕ) (text : List ℕ) → Lacks separator text → All (λ c. (c == separator) ≡ false) text
 fails_from_lacks separator [] lacks = All-nil _
-fails_from_lacks separator (c ∷ cs) (other, lacks) =
-    let here : (c == separator) ≡ false =
-    elim (eqb_tells c separator) [ inl same ↦ absurd (other same.1) | inr differs ↦ differs.0 ] in
-    All-cons (λ x. (x == separator) ≡ false) c cs here (fails_from_lacks separator cs lacks)
+fails_from_lacks separator (c ∷ cs) (other, lacks) = grind (arith, fails_from_lacks separator cs lacks)
 
 -- the field before the first separator, and those after it
 pub split_at_each-cut : (separator : ℕ) (rest front back : List ℕ) → rest ≡ front ++ separator ∷ back
@@ -48,16 +44,8 @@ pub IsWordFault-count : (spec : IdMap) (word numbers : List ℕ) (told : Option 
     → OutOfMemoryOr told (IsWordFault word numbers)
 IsWordFault-count spec word numbers told is refused = grind arith
 
--- a text whose bytes are all below 128
-IsAscii-test : (bs : List ℕ) → list_all (λ b. nat_lt b 128) bs ≡ true → IsAscii bs
-IsAscii-test bs all = search (rules, IsAscii-from_all, All-weaker, AllPass-from_list_all)
-
--- the words are ASCII
-all_ascii-word_of : (spec : IdMap) → list_all (λ b. nat_lt b 128) (word_of spec) ≡ true
-all_ascii-word_of spec = grind arith
-
 pub IsAscii-word_of : (spec : IdMap) → IsAscii (word_of spec)
-IsAscii-word_of spec = IsAscii-test (word_of spec) (all_ascii-word_of spec)
+IsAscii-word_of spec = grind (arith, IsAscii-from_all, All-weaker, AllPass-from_list_all)
 
 -- the characters of a text are the word of a specification just where its bytes are
 bytes-word_of : (spec : IdMap) (bs : List ℕ) → IsUtf8 bs → chars bs ≡ word_of spec → bs ≡ word_of spec
@@ -82,46 +70,31 @@ word_fault text word rest separator values fault is_text cut read (inl (is, unkn
     rw is (record {
       prefix = cut.prefix;
       seen = length values;
-      numerals = has_numerals text (chars word) rest separator values (length values) cut read refl;
+      numerals = grind (arith, has_numerals);
       is = cut.lower;
-      unknown = λ spec same. unknown spec (bytes-word_of spec word is_text (cut.lower ∙ same));
+      unknown = grind (arith, bytes-word_of);
     })
 word_fault text word rest separator values fault is_text cut read (inr (spec, word_is, (is, other))) =
-    rw is (inr (record {
-      prefix = cut.prefix;
-      spec = spec;
-      numerals = has_numerals text (chars word) rest separator values (length values) cut read refl;
-      word = sym cut.lower ∙ ap chars word_is ∙ chars-IsAscii (word_of spec) (IsAscii-word_of spec);
-      takes = refl;
-      other = other;
-    }))
-
--- a field that is no numeral
-fields_fault : (text word rest : List ℕ) (separator : ℕ) (fault : SpecificationFault)
-    → IsLoweredCut text word separator rest → IsFieldsFault (split_at_each separator rest) fault
-    → HasSpecificationFault text fault
-fields_fault text word rest separator fault cut (field, is, first) = search rules
+    grind (arith, chars-IsAscii, IsAscii-word_of)
 
 pub refused-fields : (text word rest : List ℕ) (separator : ℕ) (told : Option SpecificationFault)
     → IsLoweredCut text word separator rest → OutOfMemoryOr told (IsFieldsFault (split_at_each separator rest))
     → OutOfMemoryOr told (HasSpecificationFault text)
-refused-fields text word rest separator told cut refused = grind (arith, fields_fault)
+refused-fields text word rest separator told cut refused = grind arith
 
 refused_word : (text word rest : List ℕ) (separator : ℕ) (values : List ℕ) (told : Option SpecificationFault)
     → IsUtf8 word → IsLoweredCut text (chars word) separator rest
     → AllZip IsNumeral (split_at_each separator rest) values → OutOfMemoryOr told (IsWordFault word values)
     → OutOfMemoryOr told (HasSpecificationFault text)
 refused_word text word rest separator values None is_text cut read refused = tt
-refused_word text word rest separator values (Some fault) is_text cut read refused =
-    word_fault text word rest separator values fault is_text cut read refused
+refused_word text word rest separator values (Some fault) is_text cut read refused = search (rules, word_fault)
 
 -- what the reader answers, from what it found of the word and the numbers
 pub read-word : {A : Type 0} (text word rest : List ℕ) (separator : ℕ) (values : List ℕ)
     (r : Result IdMap (IdMapError A)) → IsLoweredCut text (chars word) separator rest
     → AllZip IsNumeral (split_at_each separator rest) values → IfOk r (λ spec. word ≡ word_of spec)
     → IfOk r (λ spec. values ≡ numbers_of spec) → IfOk r (Says text)
-read-word text word rest separator values (Ok spec) cut read is same =
-    Says-parts text word rest separator values spec cut read is same
+read-word text word rest separator values (Ok spec) cut read is same = search (rules, Says-parts)
 read-word text word rest separator values (Err e) cut read is same = tt
 
 pub refused-word : {A : Type 0} (text word rest : List ℕ) (separator : ℕ) (values : List ℕ)
@@ -130,5 +103,4 @@ pub refused-word : {A : Type 0} (text word rest : List ℕ) (separator : ℕ) (v
     → IfErr r (λ e. OutOfMemoryOr (specification_fault_of e) (IsWordFault word values))
     → IfErr r (λ e. OutOfMemoryOr (specification_fault_of e) (HasSpecificationFault text))
 refused-word text word rest separator values (Ok spec) is_text cut read refused = tt
-refused-word text word rest separator values (Err e) is_text cut read refused =
-    refused_word text word rest separator values (specification_fault_of e) is_text cut read refused
+refused-word text word rest separator values (Err e) is_text cut read refused = search (rules, refused_word)

@@ -1,6 +1,6 @@
 -- The front of a specification's text: how far its prefix has been read.
-use Rattle.std.proofs.Common.{◌≡◌, ℕ, ◌<◌, true, false, nat_lt, ◌≤◌, ◌⊎◌, List, [], ◌∷◌, ◌++◌, length, sym, ap, ◌∙◌}
-use Rattle.std.proofs.Common.{subst, append_assoc, arith, encode_utf8, chars, IsUtf8, append-nil, ltb-true, ltb-false}
+use Rattle.std.proofs.Common.{◌≡◌, ℕ, true, false, nat_lt, List, [], ◌∷◌, ◌++◌, length, sym, ap, ◌∙◌}
+use Rattle.std.proofs.Common.{append_assoc, arith, encode_utf8, chars, IsUtf8, append-nil, ltb-true, ltb-false}
 use Rattle.std.proofs.Common.{rules}
 use Rattle.std.specs.Char.{IsScalar, to_ascii_lowercase}
 use Rattle.std.specs.List.{AllPass}
@@ -8,7 +8,7 @@ use Rattle.std.proofs.lemmas.Str.{chars-append, chars-nil, chars_past_char, scal
 use Rattle.std.proofs.lemmas.Str.{IsUtf8-past_char}
 use Rattle.std.proofs.lemmas.List.{map-append}
 use Rattle.std.proofs.lemmas.Bool.{and_parts, cases_Bool}
-use Rattle.std.proofs.Math.Utf8.{scalar, scalars, low_scalar}
+use Rattle.std.proofs.Math.Utf8.{scalar, scalars}
 use Rattle.std.proofs.lemmas.List.Elements.{All-push, All-nil}
 use Rattle.virtiofs_map.specs.SpecificationText.{is_word_character, lowered}
 use Rattle.virtiofs_map.specs.SpecificationParts.{IsLoweredCut}
@@ -29,13 +29,9 @@ IsPrefixSoFar-start text rest word is_text same empty = search (rules, All-nil, 
 IsScalar-first : (c : ℕ) (cs : List ℕ) → scalars (c ∷ cs) ≡ true → IsScalar c
 IsScalar-first c cs all = (and_parts (scalar c) (scalars cs) all).0
 
--- whether one number is below another
-ltb_tells : (a b : ℕ) → ((nat_lt a b ≡ true) × (a < b)) ⊎ ((nat_lt a b ≡ false) × (b ≤ a))
-ltb_tells a b = search (rules, cases_Bool, nat_lt, ltb-true, ltb-false)
-
 -- a character in lower case is one
 IsScalar-lower : (c : ℕ) → IsScalar c → IsScalar (to_ascii_lowercase c)
-IsScalar-lower c scalar = search (rules, ltb_tells, low_scalar)
+IsScalar-lower c scalar = grind (arith, cases_Bool, nat_lt, ltb-true, ltb-false)
 
 -- one character as a text
 chars-encode : (c : ℕ) → IsScalar c → chars (encode_utf8 c) ≡ c ∷ []
@@ -60,12 +56,9 @@ IsPrefixSoFar-more text rest back word c d is_word lower next passes so_far =
     record {
       is_text = IsUtf8-past_char rest back c so_far.is_text next;
       done = so_far.done ++ c ∷ [];
-      whole = so_far.whole ∙ ap (λ (cs : List ℕ). so_far.done ++ cs) next_chars
-          ∙ sym (append_assoc so_far.done (c ∷ []) (chars back));
-      passed = All-push (λ x. is_word_character x ≡ true) so_far.done c so_far.passed passes;
-      lower = pushed ∙ ap (λ (cs : List ℕ). cs ++ d ∷ []) so_far.lower
-          ∙ ap (λ (x : ℕ). lowered so_far.done ++ x ∷ []) lower
-          ∙ sym (map-append to_ascii_lowercase so_far.done (c ∷ []));
+      whole = grind (arith, append_assoc);
+      passed = search (rules, All-push);
+      lower = grind (arith, map-append);
     }
 
 -- the prefix ends at a character that is no word character
@@ -76,8 +69,5 @@ IsLoweredCut-here text rest back word c next ends so_far = search (rules, chars_
 -- where nothing is left, the text is nothing but word characters
 pub AllPass-prefix : (text rest word : List ℕ) → length rest ≡ 0 → IsPrefixSoFar text rest word
     → AllPass is_word_character (chars text)
-AllPass-prefix text [] word empty so_far =
-    let whole : chars text ≡ so_far.done = so_far.whole ∙ ap (λ (cs : List ℕ). so_far.done ++ cs) chars-nil
-    ∙ append-nil so_far.done in
-    subst (λ (cs : List ℕ). AllPass is_word_character cs) (sym whole) so_far.passed
+AllPass-prefix text [] word empty so_far = grind (arith, chars-nil, append-nil)
 AllPass-prefix text (b ∷ rest) word empty so_far = absurd (omega arith)

@@ -1,6 +1,7 @@
 -- A list of texts says at most one list of specifications, and has at most one fault.
-use Rattle.std.proofs.Common.{◌≡◌, inl, inr, ℕ, ◌+◌, ◌<◌, zero, suc, List, [], ◌∷◌, ◌++◌, length, take, get_or}
-use Rattle.std.proofs.Common.{slice_get, Option, Some, IsSomeAnd, Bor, sym, ap, ◌∙◌, arith, option_map, chars, rules}
+use Rattle.std.proofs.lemmas.Grind.{common_steps}
+use Rattle.std.proofs.Common.{◌≡◌, ℕ, ◌+◌, ◌<◌, zero, suc, List, [], ◌∷◌, ◌++◌, length, take, get_or}
+use Rattle.std.proofs.Common.{slice_get, Option, Some, IsSomeAnd, Bor, arith, option_map, chars, rules}
 use Rattle.std.proofs.lemmas.Bool.{cases_order}
 use Rattle.std.proofs.lemmas.List.{take-map, map_more, length-map}
 use Rattle.std.proofs.lemmas.Option.{slice_get-map, slice_get-get_or}
@@ -18,12 +19,7 @@ use Rattle.virtiofs_map.proofs.ZipLemmas.{AllZip-push, AllZip-one}
 pub AllSay-more : (texts : List (Bor (List ℕ))) (specs : List IdMap) (i : ℕ) (d : Bor (List ℕ)) (spec : IdMap)
     → i < length texts → AllSay (take i (texts_of texts)) specs → Says (chars (get_or texts i d).now) spec
     → AllSay (take (i + 1) (texts_of texts)) (specs ++ spec ∷ [])
-AllSay-more texts specs i d spec below say here =
-    let f : Bor (List ℕ) → List ℕ = λ text. chars text.now in
-    let more : take (i + 1) (texts_of texts) ≡ take i (texts_of texts) ++ f (get_or texts i d) ∷ [] =
-    take-map f (i + 1) texts ∙ map_more f texts i d below
-    ∙ ap (λ (front : List (List ℕ)). front ++ f (get_or texts i d) ∷ []) (sym (take-map f i texts)) in
-    rw more (AllZip-push Says (take i (texts_of texts)) specs (f (get_or texts i d)) spec say here)
+AllSay-more texts specs i d spec below say here = grind (arith, common_steps, take-map, map_more, AllZip-push)
 
 pub AllSay-one : (texts : List (List ℕ)) (specs others : List IdMap) → AllSay texts specs → AllSay texts others
     → specs ≡ others
@@ -52,24 +48,10 @@ pub AllSay-no_fault : (texts : List (List ℕ)) (specs : List IdMap) (fault : Sp
     → Accepted specs → ¬ HasSpecsFault texts fault
 AllSay-no_fault texts specs fault say accepted unread = grind (arith, no_unread, Accepted-no_fault, AllSay-one)
 
--- one text has at most one fault
-one_here : (text : Option (List ℕ)) (fault other : SpecificationFault)
-    → IsSomeAnd text (λ t. HasSpecificationFault t fault) → IsSomeAnd text (λ t. HasSpecificationFault t other)
-    → fault ≡ other
-one_here text fault other first second = grind (arith, HasSpecificationFault-one)
-
 -- two texts that are not read, each the first one, are one
 one_unread : (texts : List (List ℕ)) (i j : ℕ) (fault other : SpecificationFault) → HasFirstUnread texts i fault
     → HasFirstUnread texts j other → Unread i fault ≡ Unread j other
-one_unread texts i j fault other first second =
-    elim (cases_order i j) [
-      | inl same ↦
-          let there : IsSomeAnd (slice_get texts i) (λ t. HasSpecificationFault t other) = rw same second.here in
-          let one : fault ≡ other = one_here (slice_get texts i) fault other first.here there in
-          cc
-      | inr (inl before) ↦ absurd (no_earlier texts second.before i j fault before second.say first.here)
-      | inr (inr later) ↦ absurd (no_earlier texts first.before j i other later first.say second.here)
-    ]
+one_unread texts i j fault other first second = grind (arith, cases_order, HasSpecificationFault-one, no_earlier)
 
 -- a list of texts has at most one fault
 pub HasSpecsFault-one : (texts : List (List ℕ)) (fault other : SpecsFault) → HasSpecsFault texts fault

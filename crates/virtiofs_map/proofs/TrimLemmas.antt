@@ -1,5 +1,5 @@
 -- What trimming a text leaves, in characters.
-use Rattle.std.proofs.Common.{◌≡◌, ℕ, zero, suc, ◌<◌, Bool, true, false, cond, ◌&&◌, eqb, List, [], ◌∷◌, ◌++◌, length}
+use Rattle.std.proofs.Common.{◌≡◌, ℕ, zero, suc, ◌<◌, Bool, true, false, cond, ◌&&◌, List, [], ◌∷◌, ◌++◌, length}
 use Rattle.std.proofs.Common.{take, drop, get_or, ◌⊎◌, inl, inr, refl, sym, ap, ◌∙◌, arith, rules}
 use Rattle.std.proofs.lemmas.Bool.{false≢true, false_from_ne_true}
 use Rattle.std.proofs.lemmas.Bool.Decides.{nat_tests}
@@ -21,21 +21,11 @@ and_parts a b e = grind (arith, false≢true)
 
 skip_scalars : (cs : List ℕ) → all_scalars cs ≡ true → all_scalars (skip_leading_whitespace cs) ≡ true
 skip_scalars [] e = refl
-skip_scalars (c ∷ cs) e =
-    elim (is_whitespace c) as (λ b. all_scalars (cond b (skip_leading_whitespace cs) (c ∷ cs)) ≡ true) [
-      | true ↦ skip_scalars cs (and_parts (scalar c) (all_scalars cs) e).1
-      | false ↦ e
-    ]
+skip_scalars (c ∷ cs) e = grind (arith, skip_scalars cs (and_parts (scalar c) (all_scalars cs) e).1)
 
 drop_scalars : (cs : List ℕ) → all_scalars cs ≡ true → all_scalars (drop_trailing_whitespace cs) ≡ true
 drop_scalars [] e = refl
-drop_scalars (c ∷ cs) e =
-    let parts = and_parts (scalar c) (all_scalars cs) e in
-    elim (is_whitespace c && eqb (length (drop_trailing_whitespace cs)) 0) as (λ b. all_scalars
-    (cond b [] (c ∷ drop_trailing_whitespace cs)) ≡ true) [
-      | true ↦ refl
-      | false ↦ rw (parts.0, drop_scalars cs parts.1) refl
-    ]
+drop_scalars (c ∷ cs) e = grind (arith, drop_scalars cs)
 
 -- what `trim` gives, in characters
 pub chars-trim : (s : List ℕ) → IsUtf8 s → chars (trim s) ≡ trimmed (chars s)
@@ -56,8 +46,7 @@ skip_head_by b x xs zs ds c is_b later e = grind arith
 
 skip_head : (cs ds : List ℕ) (c : ℕ) → skip_leading_whitespace cs ≡ c ∷ ds → is_whitespace c ≡ false
 skip_head [] ds c e = absurd (cc)
-skip_head (x ∷ xs) ds c e =
-    skip_head_by (is_whitespace x) x xs (skip_leading_whitespace xs) ds c refl (skip_head xs ds c) e
+skip_head (x ∷ xs) ds c e = search (rules, skip_head xs ds c, skip_head_by)
 
 drop_head_by : (b : Bool) (x : ℕ) (xs zs ds : List ℕ) (c : ℕ) → cond b [] (x ∷ zs) ≡ c ∷ ds
     → (es : List ℕ) × (x ∷ xs ≡ c ∷ es)
@@ -80,24 +69,16 @@ trimmed_opened text = opened_or_empty (trimmed text) (λ c ds e blank.
 
 -- ---- a trimmed text ends with no blank
 
-drop_again_by : (b : Bool) (c : ℕ) (zs : List ℕ) → (is_whitespace c && eqb (length zs) 0) ≡ b
-    → drop_trailing_whitespace zs ≡ zs
-    → drop_trailing_whitespace (cond b [] (c ∷ zs)) ≡ cond b [] (c ∷ zs)
-drop_again_by b c zs is_b again = grind arith
-
 drop_again : (cs : List ℕ) → drop_trailing_whitespace (drop_trailing_whitespace cs) ≡ drop_trailing_whitespace cs
 drop_again [] = refl
-drop_again (c ∷ cs) = drop_again_by _ c (drop_trailing_whitespace cs) refl (drop_again cs)
-
-solid_tail_by : (b : Bool) (c : ℕ) (cs zs : List ℕ) → cond b [] (c ∷ zs) ≡ c ∷ cs → zs ≡ cs
-solid_tail_by b c cs zs e = grind arith
+drop_again (c ∷ cs) = grind (arith, drop_again cs)
 
 solid_tail : (c : ℕ) (cs : List ℕ) → drop_trailing_whitespace (c ∷ cs) ≡ c ∷ cs → drop_trailing_whitespace cs ≡ cs
-solid_tail c cs e = solid_tail_by _ c cs (drop_trailing_whitespace cs) e
+solid_tail c cs e = grind arith
 
 pub solid_back : (xs ys : List ℕ) → drop_trailing_whitespace (xs ++ ys) ≡ xs ++ ys → drop_trailing_whitespace ys ≡ ys
 solid_back [] ys e = e
-solid_back (x ∷ xs) ys e = solid_back xs ys (solid_tail x (xs ++ ys) e)
+solid_back (x ∷ xs) ys e = grind (arith, solid_back xs ys (solid_tail x (xs ++ ys) e))
 
 pub trimmed_solid : (text : List ℕ) → drop_trailing_whitespace (trimmed text) ≡ trimmed text
 trimmed_solid text = drop_again (skip_leading_whitespace text)
@@ -142,12 +123,11 @@ skips s r utf8 (n, is_rest, lengths, below, stops) =
     let parts : take n s ++ r ≡ s = rw is_rest (take-append-drop n s) in
     record {
       blanks = take n s;
-      spells = sym (ap chars parts) ∙ chars-append (take n s) r (IsUtf8-from_ascii (take n s) ascii)
-          ∙ ap (λ x. x ++ chars r) (chars-IsAscii (take n s) ascii);
+      spells = grind (arith, chars-append, IsUtf8-from_ascii, chars-IsAscii);
       are_blank = blank;
       opened = opened_or_empty (chars r) (λ c ds e is_blank.
           let spelled : r ≡ encode_utf8_all (c ∷ ds) = sym (encodes-chars r utf8) ∙ ap encode_utf8_all e in
-          let first : get_or r 0 0 ≡ c = byte_from_char r (encode_utf8_all ds) c spelled (blank_is_ascii c is_blank) in
+          let first : get_or r 0 0 ≡ c = grind (arith, byte_from_char, blank_is_ascii) in
           let long : n < length s = omega (arith, ap length spelled, length-le-encodes (c ∷ ds)) in
           let here : get_or r 0 0 ≡ get_or s n 0 = ap (λ x. get_or x 0 0) is_rest ∙ get_or_drop_first s n in
           false≢true (sym (stops long) ∙ ap is_ascii_whitespace (sym here ∙ first) ∙ is_blank));

@@ -9,11 +9,11 @@ use Rattle.virtiofs_map.specs.Build.{HasTarget, Accepted}
 use Rattle.virtiofs_map.specs.Image.{IsImage}
 use Rattle.virtiofs_map.specs.ImageAnswer.{SaysValue, SaysIn, SaysLeadsBack}
 use Rattle.virtiofs_map.specs.LookupSteps.{acting, halvings_within, binary_digits}
-use Rattle.virtiofs_map.specs.Mapping.{first_of, EntryCovers, target_of, Becomes}
+use Rattle.virtiofs_map.specs.Mapping.{first_of, EntryCovers, Becomes}
 use Rattle.virtiofs_map.specs.MappingLaws.{IsMappedBothWays}
 use Rattle.virtiofs_map.specs.RangeParts.{Precedes, HasNumbers, AreRanges}
 use Rattle.virtiofs_map.specs.Steps.{count_after, CountsBetween}
-use Rattle.virtiofs_map.specs.WordParts.{Table, IsAt, HasRanges, words_lent, table_in, Searches, SaysEntry}
+use Rattle.virtiofs_map.specs.WordParts.{Table, IsAt, HasRanges, words_lent, Searches, SaysEntry}
 use Rattle.virtiofs_map.specs.declared.cmdline.IdMap.{IdMap}
 use Rattle.virtiofs_map.specs.declared.soft_idmap.entry.Direction.{Direction}
 use Rattle.virtiofs_map.specs.declared.soft_idmap.entry.Entry.{Entry}
@@ -102,11 +102,7 @@ says_by specs direction table n at answer has inside says alone =
     let numbers : HasNumbers range = has.ordered.numbers at no_range inside' in
     let target : HasTarget range = has.ordered.target at no_range inside' in
     elim (says range (has.stand.each at range here) numbers target) [
-      | inl (covers, value) ↦ (
-        target_of range n,
-        Becomes-by_range specs direction has.ranges n range has.stores stored covers,
-        value,
-      )
+      | inl (covers, value) ↦ search (rules, Becomes-by_range)
       | inr (beyond, value) ↦ (
         Some n,
         Becomes-itself specs direction has.ranges n has.stores (λ other stored' covers.
@@ -130,31 +126,14 @@ SaysIn-last specs direction table n index answer has searches inside says =
 
 -- ---- no specification
 
-no_ranges : (direction : Direction) (table : Table) → table.count ≡ 0 → HasRanges [] direction table
-no_ranges direction table none = search rules
-
 -- they are as many as specifications act
 pub HasRanges-count : (specs : List IdMap) (direction : Direction) (table : Table) → HasRanges specs direction table
     → table.count ≡ acting specs direction
 HasRanges-count specs direction table has = sym has.stand.counted ∙ has.stores.counted
 
-no_count : (direction : Direction) → (table_in (words_lent []) direction).count ≡ 0
-no_count direction = grind arith
-
 -- what a map without specifications lends
 pub IsImage-empty : IsImage [] (words_lent [])
-IsImage-empty = record {
-  kind = refl;
-  ended = refl;
-  room = omega arith;
-  accepted =
-      record {
-        source = λ direction. search rules;
-        target = λ direction. search rules;
-        apart = λ direction i j d before below. absurd (omega arith);
-      };
-  ranges = λ direction. no_ranges direction (table_in (words_lent []) direction) (no_count direction);
-}
+IsImage-empty = grind arith
 
 -- a map that has words lends those
 pub IsImage-lent : (specs : List IdMap) (words : List ℕ) → IsImage specs words → IsImage specs (words_lent words)
@@ -185,8 +164,7 @@ begins_above : (ranges : List Entry) (d : Entry) (k : ℕ) → All HasNumbers ra
     → k < length ranges → k ≤ first_of (get_or ranges k d)
 begins_above ranges d zero numbers ordered below = omega arith
 begins_above ranges d (suc k) numbers ordered below =
-    let earlier : k ≤ first_of (get_or ranges k d) = begins_above ranges d k numbers ordered (omega arith) in
-    omega (arith, (numbers k d (omega arith)).some, ordered k (suc k) d (omega arith) below)
+    grind (arith, begins_above ranges d k numbers ordered (omega arith))
 
 count_below : (ranges : List Entry) (count : ℕ) → AreRanges ranges → length ranges ≡ count → count < 4294967296
 count_below ranges zero are counted = omega arith

@@ -1,4 +1,5 @@
 -- Two lists of which each element goes with the one at its place.
+use Rattle.std.proofs.Common.{arith}
 use Rattle.std.proofs.Common.{◌≡◌, List, [], ◌∷◌, ◌++◌, refl}
 use Rattle.std.specs.List.{AllZip}
 
@@ -17,6 +18,4 @@ AllZip-one R one [] (y ∷ ys) zs first second = absurd first
 AllZip-one R one [] [] (z ∷ zs) first second = absurd second
 AllZip-one R one (x ∷ xs) [] zs first second = absurd first
 AllZip-one R one (x ∷ xs) (y ∷ ys) [] first second = absurd second
-AllZip-one R one (x ∷ xs) (y ∷ ys) (z ∷ zs) first second =
-    let here : y ≡ z = one x y z first.0 second.0 in
-    let there : ys ≡ zs = AllZip-one R one xs ys zs first.1 second.1 in cc
+AllZip-one R one (x ∷ xs) (y ∷ ys) (z ∷ zs) first second = grind (arith, AllZip-one R one xs ys zs first.1 second.1)

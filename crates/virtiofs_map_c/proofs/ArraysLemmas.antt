@@ -76,6 +76,4 @@ array_complete specs made code told tells is = search (rules, refused_complete, 
 pub array_faulty : (specs : List Spec) (code : ℕ) (told : Fault)
     → TellsFault (HasArrayFault specs) (IsArrayTold code told) → (wrong : ArrayFault) → HasArrayFault specs wrong
     → TellsThis (IsArrayTold code told) wrong
-array_faulty specs code told tells wrong has =
-    refused_faulty (HasArrayFault specs) (IsArrayTold code told) tells wrong
-    (λ other it. HasArrayFault-one specs other wrong it has)
+array_faulty specs code told tells wrong has = search (rules, refused_faulty, HasArrayFault-one)

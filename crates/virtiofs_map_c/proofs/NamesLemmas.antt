@@ -1,43 +1,28 @@
 -- What is told of names: the codes of decisions, lists, and what audits find.
-use Rattle.std.proofs.Common.{◌≡◌, inl, inr, ℕ, Bool, List, [], Option, None, IfOk, MatchResult, Result, refl, arith}
+use Rattle.std.proofs.Common.{ℕ, Bool, List, [], Option, IfOk, MatchResult, Result, arith}
 use Rattle.std.proofs.Common.{rules}
 use Rattle.std.proofs.lemmas.Bool.{cases_lt}
 use Rattle.std.specs.Global.{Global}
 use Rattle.virtiofs_map.specs.Audit.{AnswersLeast, Within}
 use Rattle.virtiofs_map.specs.declared.audit.answer.Audit.{Audit}
 use Rattle.virtiofs_map.specs.NamesImage.{WritesList}
-use Rattle.virtiofs_map.specs.Rule.{Prefix, Okay, Bad, Unsupported}
 use Rattle.virtiofs_map.specs.declared.xattrmap.image.Decision.{Decision}
-use Rattle.virtiofs_map_c.specs.Codes.{ok, no_memory, no_room, unterminated}
+use Rattle.virtiofs_map_c.specs.Codes.{ok, no_memory}
 use Rattle.virtiofs_map_c.specs.Names.{IsClientCode, TellsDecision, TellsFound, TellsLeast, TellsNo, TellsServer}
-use Rattle.virtiofs_map.specs.declared.xattrmap.image.Decision.TheVariants as decisions
 use Rattle.virtiofs_map.specs.declared.xattrmap.image.ListWritten.TheVariants as lists
 
 -- ---- the codes of names
 
 pub decision_code : (decision : Decision) (name old : List ℕ) (code len : ℕ) (new : List ℕ)
     → TellsDecision decision name old code len new → IsClientCode code
-decision_code decisions.NoMap name old code len new tells = inr (inr (inr (inr (inr (inr tells.code_told)))))
-decision_code decisions.Undecided name old code len new tells = inr (inr (inr (inr (inl tells.code_told))))
-decision_code decisions.Okay name old code len new tells = inr (inl tells.code_told)
-decision_code (decisions.Prefix prepend) name old code len new tells = search (rules, cases_lt)
-decision_code decisions.Bad name old code len new tells = inr (inr (inl tells.code_told))
-decision_code decisions.Unsupported name old code len new tells = inr (inr (inr (inl tells.code_told)))
+decision_code decision name old code len new tells = grind (arith, cases_lt)
 
 -- ---- lists
 
--- a list that was written, and one for which there is no room
+-- a list that was written
 pub list_told : (answer : Option (List ℕ)) (old : List ℕ) (count : ℕ) (new : List ℕ)
     → WritesList answer old new (lists.Written count) → TellsServer answer old ok count new
 list_told answer old count new (list, is, same, now) = search rules
-
-pub undecided_told : (answer : Option (List ℕ)) (old new : List ℕ) → answer ≡ None
-    → TellsServer answer old unterminated 0 new
-undecided_told answer old new is = rw is (refl, refl)
-
-pub no_room_told : (answer : Option (List ℕ)) (old : List ℕ) (count : ℕ) (new : List ℕ)
-    → WritesList answer old new (lists.NoRoom count) → TellsServer answer old no_room count new
-no_room_told answer old count new (list, is, same, short) = search rules
 
 -- ---- audits
 

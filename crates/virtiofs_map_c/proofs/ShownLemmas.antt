@@ -1,6 +1,6 @@
 -- The list that a daemon hands on, name by name.
-use Rattle.std.proofs.Common.{◌≡◌, ℕ, ◌+◌, ◌<◌, ◌≤◌, Bool, true, false, ◌&&◌, if◌then◌else◌, List, [], ◌∷◌, ◌++◌}
-use Rattle.std.proofs.Common.{length, drop, Some, None, inl, inr, refl, sym, ap, ◌∙◌, arith, append-nil, length-append}
+use Rattle.std.proofs.Common.{◌≡◌, ℕ, ◌+◌, ◌<◌, ◌≤◌, Bool, true, false, ◌&&◌, List, [], ◌∷◌, ◌++◌}
+use Rattle.std.proofs.Common.{length, drop, Some, inl, inr, refl, sym, ap, ◌∙◌, arith, append-nil, length-append}
 use Rattle.std.specs.List.{list_all, flat_map}
 use Rattle.std.specs.Borrow.{Bor}
 use Rattle.std.proofs.lemmas.Bool.Decides.{nat_tests}
@@ -46,10 +46,7 @@ told seen.Hidden = IsHidden
 told (seen.Name shown) = IsListed shown.now
 
 told_is : (answer : HostAnswer) (shown : Shown) → IsShownAs answer shown → answer ≡ told shown
-told_is answer seen.NoMap is = absurd is
-told_is answer seen.Undecided is = is
-told_is answer seen.Hidden is = is
-told_is answer (seen.Name shown) is = is
+told_is answer shown is = grind arith
 
 decided_step : (rules : List MappingRule) (list rest : List ℕ) (shown : Shown) → IsFirstShown rules list shown rest
     → all_decided rules list ≡ is_decided (told shown) && all_decided rules rest
@@ -90,9 +87,7 @@ module _ (rules : List MappingRule) (list rest left : List ℕ) (count : ℕ) (o
       } where
         rejoined : (front name rest : List ℕ)
             → (front ++ name ++ 0 ∷ []) ++ rest ≡ front ++ ((name ++ 0 ∷ []) ++ rest)
-        rejoined front name rest =
-            ap (λ s. s ++ rest) (append_assoc front name (0 ∷ []))
-            ∙ append_assoc front (name ++ 0 ∷ []) rest
+        rejoined front name rest = simp append_assoc refl
 
 -- ---- the end
 
@@ -103,29 +98,16 @@ nil_from (x ∷ l) e = absurd (omega (arith, e))
 module _ (rules : List MappingRule) (list rest : List ℕ) (count : ℕ) (old new : List ℕ)
     (so_far : IsSoFar rules list rest count old new) (none_left : length rest ≡ 0) where
   whole : so_far.so_far ≡ all_parts rules list
-  whole =
-      sym (append-nil so_far.so_far)
-      ∙ ap (λ r. so_far.so_far ++ all_parts rules r) (sym (nil_from rest none_left))
-      ∙ so_far.parts
+  whole = grind (arith, nil_from, append-nil)
 
   answer : shown_list rules list ≡ Some so_far.so_far
-  answer =
-      let all : all_decided rules list ≡ true =
-      sym so_far.decided ∙ ap (all_decided rules) (nil_from rest none_left) in
-      ap (λ b. if b then Some (all_parts rules list) else None) all ∙ ap (λ l. Some l) (sym whole)
+  answer = grind (arith, nil_from, whole)
 
   pub fits : count ≤ length new
       → (told : List ℕ) × (shown_list rules list ≡ Some told) × (count ≡ length told)
       × (new ≡ told ++ drop count old)
-  fits room =
-      let stands = so_far.holds.are (omega (arith, so_far.counted, room, so_far.holds.same)) in (
-        so_far.so_far,
-        answer,
-        so_far.counted,
-        stands ∙ ap (λ (n : ℕ). so_far.so_far ++ drop n old) (sym so_far.counted),
-      )
+  fits room = grind (arith, answer)
 
   pub too_long : length new < count
       → (told : List ℕ) × (shown_list rules list ≡ Some told) × (count ≡ length told) × (length old < count)
-  too_long long =
-      (so_far.so_far, answer, so_far.counted, omega (arith, long, so_far.holds.same))
+  too_long long = grind (arith, answer)

@@ -3,7 +3,6 @@ use Rattle.std.proofs.Common.{◌≡◌, ℕ, ◌+◌, ◌<◌, List, [], ◌∷
 use Rattle.std.proofs.Common.{None, IsSomeAnd, Bor, arith, rules}
 use Rattle.std.proofs.lemmas.List.{take_more}
 use Rattle.std.proofs.lemmas.Option.{slice_get-get_or}
-use Rattle.std.proofs.lemmas.Slice.Zip.{AllZip-long}
 use Rattle.std.specs.Option.{option_map}
 use Rattle.std.specs.Str.{chars}
 use Rattle.virtiofs_map.proofs.ForCallers.{AllZip-push, AllZip-one, specification_one_value, specification_no_fault}
@@ -11,13 +10,9 @@ use Rattle.virtiofs_map.proofs.ForCallers.{specification_one_fault, build_no_fau
 use Rattle.virtiofs_map.specs.Build.{BuildFault, HasFirstFault}
 use Rattle.virtiofs_map.specs.Refusal.{OutOfMemoryOr}
 use Rattle.virtiofs_map.specs.declared.cmdline.IdMap.{IdMap as Specification}
-use Rattle.virtiofs_map_c.specs.Makes.{TellsFault, MakesOrTells, TellsThis}
-use Rattle.virtiofs_map_c.specs.declared.fault.Fault.{Fault}
-use Rattle.virtiofs_map_c.specs.Texts.{SaysSpec, TextFault, NotUtf8, OfText, HasTextFault, IsTextTold, AllSaySpecs}
+use Rattle.virtiofs_map_c.specs.Texts.{SaysSpec, TextFault, NotUtf8, OfText, HasTextFault, AllSaySpecs}
 use Rattle.virtiofs_map_c.specs.Texts.{AreAccepted, HasUnreadText, TextsFault, UnreadText, UnbuiltTexts, HasTextsFault}
-use Rattle.virtiofs_map_c.specs.Texts.{AreTextsTold}
 use Rattle.virtiofs_map_c.proofs.FirstLemmas.{none_bad, one_place}
-use Rattle.virtiofs_map_c.proofs.MakesLemmas.{refused_complete, refused_faulty}
 
 -- ---- one text
 
@@ -52,11 +47,6 @@ pub AllSaySpecs-more : (texts : List (Bor (List ℕ))) (list : List Specificatio
     → AllSaySpecs (take (i + 1) texts) (list ++ spec ∷ [])
 AllSaySpecs-more texts list i d spec below say here =
     rw (take_more texts i d below) (AllZip-push Goes (take i texts) list (get_or texts i d) spec say here)
-
--- the list is as long as the array
-pub AllSaySpecs-long : (texts : List (Bor (List ℕ))) (list : List Specification) → AllSaySpecs texts list
-    → length list ≡ length texts
-AllSaySpecs-long texts list say = AllZip-long Goes texts list say
 
 pub AllSaySpecs-one : (texts : List (Bor (List ℕ))) (list others : List Specification) → AllSaySpecs texts list
     → AllSaySpecs texts others → list ≡ others
@@ -107,31 +97,3 @@ HasTextsFault-one texts (UnreadText i fault) (UnbuiltTexts other) first second =
 HasTextsFault-one texts (UnbuiltTexts fault) (UnreadText j other) first second =
     absurd (none_bad Goes (Has other) (never other) texts first.list j first.say second.here)
 HasTextsFault-one texts (UnbuiltTexts fault) (UnbuiltTexts other) first second = search (rules, build_one_fault, AllSaySpecs-one)
-
--- ---- what a call tells of texts
-
-pub texts_complete : (texts : List (Bor (List ℕ))) (made : Type 0) (code : ℕ) (told : Fault) (old new : List ℕ)
-    → TellsFault (HasTextsFault texts) (AreTextsTold code told old new) → AreAccepted texts
-    → MakesOrTells made (AreTextsTold code told old new)
-texts_complete texts made code told old new tells are = search (rules, refused_complete, AreAccepted-no_fault)
-
-pub texts_faulty : (texts : List (Bor (List ℕ))) (code : ℕ) (told : Fault) (old new : List ℕ)
-    → TellsFault (HasTextsFault texts) (AreTextsTold code told old new) → (wrong : TextsFault)
-    → HasTextsFault texts wrong → TellsThis (AreTextsTold code told old new) wrong
-texts_faulty texts code told old new tells wrong has =
-    refused_faulty (HasTextsFault texts) (AreTextsTold code told old new) tells wrong
-    (λ other it. HasTextsFault-one texts other wrong it has)
-
-pub text_complete : (bytes : List ℕ) (made : Type 0) (code : ℕ) (told : Fault) (old new : List ℕ)
-    → TellsFault (HasTextFault bytes) (IsTextTold code told old new) → (one : Specification) → SaysSpec bytes one
-    → MakesOrTells made (IsTextTold code told old new)
-text_complete bytes made code told old new tells one says =
-    refused_complete made (HasTextFault bytes) (IsTextTold code told old new) tells
-    (λ fault. SaysSpec-no_fault bytes one fault says)
-
-pub text_faulty : (bytes : List ℕ) (code : ℕ) (told : Fault) (old new : List ℕ)
-    → TellsFault (HasTextFault bytes) (IsTextTold code told old new) → (wrong : TextFault) → HasTextFault bytes wrong
-    → TellsThis (IsTextTold code told old new) wrong
-text_faulty bytes code told old new tells wrong has =
-    refused_faulty (HasTextFault bytes) (IsTextTold code told old new) tells wrong
-    (λ other it. HasTextFault-one bytes other wrong it has)

@@ -1,11 +1,10 @@
 -- What is told of a value is what the library answers of it.
-use Rattle.std.proofs.Common.{◌≡◌, ◌≢◌, ◌⊎◌, inl, inr, ℕ, List, Result, Ok, Err, refl, arith, rules}
+use Rattle.std.proofs.Common.{◌≡◌, ◌≢◌, ◌⊎◌, ℕ, List, Result, Ok, Err, arith, rules}
 use Rattle.std.specs.Prelude.{IfErr, OnErr}
 use Rattle.std.proofs.lemmas.Bool.{false≢true}
 use Rattle.virtiofs_acl.specs.ValueChanges.{ChangesList, ChangesRoot}
 use Rattle.virtiofs_acl.specs.declared.errors.AclError.{AclError}
 use Rattle.virtiofs_acl.specs.declared.errors.CapabilityError.{CapabilityError}
-use Rattle.virtiofs_acl.specs.declared.errors.EntryFault.TheVariants.{UnknownTag, Permission, NoId, Forbidden, Merges}
 use Rattle.virtiofs_map.specs.declared.cmdline.IdMap.{IdMap as Specification}
 use Rattle.virtiofs_map.specs.declared.soft_idmap.entry.Direction.{Direction}
 use Rattle.virtiofs_map_c.specs.Codes.{ok, no_map}
@@ -14,7 +13,6 @@ use Rattle.virtiofs_map_c.specs.Values.{acl_code, capability_code, IsAclTold, Is
 use Rattle.virtiofs_map_c.specs.Values.{ChangesAcl, ChangesCapability, IsAclCode, IsRootCode, IsCapabilityCode, AreIds}
 use Rattle.virtiofs_acl.specs.Acl.{IdsBecome, GoesAcross}
 use Rattle.virtiofs_map_c.specs.declared.fault.Fault.{Fault}
-use Rattle.virtiofs_acl.specs.declared.errors.AclError.TheVariants as lists
 use Rattle.virtiofs_acl.specs.declared.errors.CapabilityError.TheVariants as capabilities
 
 -- ---- whatever the maps are
@@ -38,40 +36,20 @@ told_no_fault is_told answer code told fails is without = grind arith
 -- ---- the codes of errors
 
 acl_error_code : (error : AclError) → IsAclCode (acl_code error) × (acl_code error ≢ ok) × (acl_code error ≢ no_map)
-acl_error_code lists.TooShort = (inr (inr (inl refl)), (λ e. omega arith), (λ e. omega arith))
-acl_error_code (lists.Version version) = (inr (inr (inl refl)), (λ e. omega arith), (λ e. omega arith))
-acl_error_code lists.Length = (inr (inr (inl refl)), (λ e. omega arith), (λ e. omega arith))
-acl_error_code (lists.Room needed) = (inr (inr (inr (inl refl))), (λ e. omega arith), (λ e. omega arith))
-acl_error_code (lists.Entry k UnknownTag) = (inr (inr (inl refl)), (λ e. omega arith), (λ e. omega arith))
-acl_error_code (lists.Entry k Permission) = (inr (inr (inl refl)), (λ e. omega arith), (λ e. omega arith))
-acl_error_code (lists.Entry k NoId) = (inr (inr (inr (inr (inr (inr refl))))), (λ e. omega arith), (λ e. omega arith))
-acl_error_code (lists.Entry k Forbidden) = (inr (inl refl), (λ e. omega arith), (λ e. omega arith))
-acl_error_code (lists.Entry k Merges) = (inr (inr (inr (inr (inr (inl refl))))), (λ e. omega arith), (λ e. omega arith))
+acl_error_code error = grind arith
 
 capability_error_code : (error : CapabilityError)
     → IsCapabilityCode (capability_code error) × (capability_code error ≢ ok) × (capability_code error ≢ no_map)
-capability_error_code capabilities.TooShort = (inl (inr (inr (inl refl))), (λ e. omega arith), (λ e. omega arith))
-capability_error_code (capabilities.Revision revision) =
-    (inl (inr (inr (inl refl))), (λ e. omega arith), (λ e. omega arith))
-capability_error_code capabilities.Length = (inl (inr (inr (inl refl))), (λ e. omega arith), (λ e. omega arith))
-capability_error_code capabilities.NoId = (inl (inr (inr (inr (inr refl)))), (λ e. omega arith), (λ e. omega arith))
-capability_error_code capabilities.Forbidden = (inl (inr (inl refl)), (λ e. omega arith), (λ e. omega arith))
-capability_error_code capabilities.RootMoves = (inr refl, (λ e. omega arith), (λ e. omega arith))
+capability_error_code error = grind arith
 
 root_error_code : (error : CapabilityError) → error ≢ capabilities.RootMoves → IsRootCode (capability_code error)
-root_error_code capabilities.TooShort other = inr (inr (inl refl))
-root_error_code (capabilities.Revision revision) other = inr (inr (inl refl))
-root_error_code capabilities.Length other = inr (inr (inl refl))
-root_error_code capabilities.NoId other = inr (inr (inr (inr refl)))
-root_error_code capabilities.Forbidden other = inr (inl refl)
-root_error_code capabilities.RootMoves other = absurd (other refl)
+root_error_code error other = grind arith
 
 pub acl_fails_otherwise : (room : ℕ) → FailsOtherwise (IsAclTold room)
-acl_fails_otherwise room code told error is = rw is.code_told ((acl_error_code error).1, (acl_error_code error).2)
+acl_fails_otherwise room code told error is = grind (arith, acl_error_code)
 
 pub capability_fails_otherwise : FailsOtherwise IsCapabilityTold
-capability_fails_otherwise code told error is =
-    rw is.code_told ((capability_error_code error).1, (capability_error_code error).2)
+capability_fails_otherwise code told error is = grind (arith, capability_error_code)
 
 pub tells_acl_code : (room : ℕ) (answer : Result (Unit {0}) AclError) (code : ℕ) (told : Fault)
     → IsAnswerTold (IsAclTold room) answer code told → IsAclCode code

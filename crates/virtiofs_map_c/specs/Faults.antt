@@ -1,7 +1,7 @@
 -- How a fault is told to C: its kind as the header numbers it, and what else that kind says.
 use Rattle.std.specs.Prelude.{ℕ, Option, Some, None}
 use Rattle.core.specs.declared.str.parse.IntErrorKind.{IntErrorKind}
-use Rattle.core.specs.declared.str.parse.IntErrorKind.TheVariants.{Empty, InvalidDigit, PosOverflow, NegOverflow, Zero}
+use Rattle.core.specs.declared.str.parse.IntErrorKind.TheVariants.{Empty, InvalidDigit}
 use Rattle.virtiofs_map.specs.Build.{BuildFault, RangeOverflow, Intersects}
 use Rattle.virtiofs_map.specs.declared.soft_idmap.entry.Direction.{Direction}
 use Rattle.virtiofs_map.specs.declared.soft_idmap.entry.Direction.TheVariants.{GuestToHost, HostToGuest}
@@ -27,8 +27,7 @@ told_at kind part place quoted wanted =
       number = 0;
       place = place;
       expected = 0;
-      seen =
-          0;
+      seen = 0;
       quoted = quoted;
       wanted = wanted;
       spec = no_spec;
@@ -60,9 +59,7 @@ end_number Target = 1
 abbrev pub number_kind : IntErrorKind → ℕ
 number_kind Empty = 0
 number_kind InvalidDigit = 1
-number_kind PosOverflow = 2
-number_kind NegOverflow = 2
-number_kind Zero = 2
+number_kind other = 2
 
 -- what is told of a list of which no map is made
 abbrev pub build_told : BuildFault → Fault

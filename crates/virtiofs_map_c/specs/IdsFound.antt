@@ -1,5 +1,5 @@
 -- What decisions about all ids tell.
-use Rattle.std.specs.Prelude.{◌≡◌, ◌⊎◌, ℕ, Bool, true, false, List, length, Option, Some, None}
+use Rattle.std.specs.Prelude.{◌≡◌, ◌⊎◌, ℕ, Bool, not, true, false, List, length, Option, Some, None}
 use Rattle.virtiofs_map.specs.Build.{Accepted}
 use Rattle.virtiofs_id_audit.specs.IdAudit.{IsLeastId, GoesTo, WanderTo, SharedAs}
 use Rattle.virtiofs_map.specs.declared.cmdline.IdMap.{IdMap as Specification}
@@ -25,8 +25,7 @@ TellsAudit bad tells false old new = TellsLeastId bad tells new
 
 -- yes where some id reaches, with the least one that does, and else no
 abbrev pub TellsReach : (ℕ → Type 0) → (IdsFound → Type 0) → Bool → IdsFound → IdsFound → Type 0
-TellsReach reaching tells true old new = TellsLeastId reaching tells new
-TellsReach reaching tells false old new = TellsNone reaching old new
+TellsReach reaching tells is_there old new = TellsAudit reaching tells (not is_there) old new
 
 -- ---- what is told of an id
 

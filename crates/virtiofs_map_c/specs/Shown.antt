@@ -11,9 +11,7 @@ use Rattle.virtiofs_map_c.specs.declared.names.shown.Shown.TheVariants as seen
 -- a name that would be seen as the empty name is hidden, since the empty name is none
 abbrev pub without_empty : HostAnswer → HostAnswer
 without_empty (IsListed []) = IsHidden
-without_empty (IsListed (byte ∷ name)) = IsListed (byte ∷ name)
-without_empty IsHidden = IsHidden
-without_empty IsUndecided = IsUndecided
+without_empty answer = answer
 
 -- what the guest sees of a name of the host
 abbrev pub shown_as : List MappingRule → List ℕ → HostAnswer
@@ -22,8 +20,7 @@ shown_as rules name = without_empty (host_answer rules name)
 -- the part of a list that a name comes to: what the guest sees of it, and a zero; nothing of a name that is hidden
 abbrev pub part_of : HostAnswer → List ℕ
 part_of (IsListed name) = name ++ 0 ∷ []
-part_of IsHidden = []
-part_of IsUndecided = []
+part_of answer = []
 
 -- the list that a daemon hands on: none where no rule decides one of the names
 abbrev pub shown_list : List MappingRule → List ℕ → Option (List ℕ)
@@ -54,10 +51,8 @@ IsShownCode code =
 
 -- how many bytes are seen of a name
 abbrev pub shown_length : Shown → ℕ
-shown_length seen.NoMap = 0
-shown_length seen.Undecided = 0
-shown_length seen.Hidden = 0
 shown_length (seen.Name shown) = length shown.now
+shown_length other = 0
 
 -- this is seen of the first name of a list, and the rest has the other names; or the rest has all names, and nothing is
 -- seen

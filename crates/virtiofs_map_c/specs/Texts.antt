@@ -48,28 +48,16 @@ abbrev pub number_error_of : TextError → IntErrorKind
 number_error_of (text_errors.Spec (spec_errors.InvalidValue value error)) = error_kind error
 number_error_of other = Empty
 
--- what a part is, and its place
-pub record Part : Type 0 where
-  pub part : ℕ
-  pub place : ℕ
-
--- a text that is no element of a list, and the text at that index of a list
-abbrev pub whole : Part
-whole = record { part = no_part; place = 0 }
-
-abbrev pub text_at : ℕ → Part
-text_at index = record { part = specification; place = index }
-
 -- what is told of the text that is that part, where there is room for so many bytes of it, and where a field is no
 -- number in that way
-abbrev pub fault_told : IntErrorKind → Part → ℕ → TextFault → Fault
-fault_told kind at room NotUtf8 = told_at 2 at.part at.place 0 0
-fault_told kind at room (OfText (InvalidPrefix word)) =
-    told_at 6 at.part at.place (fitting room (length (encode_utf8_all word))) (length (encode_utf8_all word))
-fault_told kind at room (OfText (InvalidLength expected seen)) =
-    record (told_at 7 at.part at.place 0 0) { expected = expected; seen = seen }
-fault_told kind at room (OfText (InvalidValue field)) =
-    record (told_at 8 at.part at.place (fitting room (length (encode_utf8_all field)))
+abbrev pub fault_told : IntErrorKind → ℕ → ℕ → ℕ → TextFault → Fault
+fault_told kind part place room NotUtf8 = told_at 2 part place 0 0
+fault_told kind part place room (OfText (InvalidPrefix word)) =
+    told_at 6 part place (fitting room (length (encode_utf8_all word))) (length (encode_utf8_all word))
+fault_told kind part place room (OfText (InvalidLength expected seen)) =
+    record (told_at 7 part place 0 0) { expected = expected; seen = seen }
+fault_told kind part place room (OfText (InvalidValue field)) =
+    record (told_at 8 part place (fitting room (length (encode_utf8_all field)))
     (length (encode_utf8_all field))) { number = number_kind kind }
 
 -- where the fault is that of a field, this is how it is no number: what the standard library's `parse` says of it
@@ -80,14 +68,13 @@ IsNumberError other kind = ⊤
 
 -- what is quoted of one text
 abbrev pub fault_quoted : TextFault → List ℕ
-fault_quoted NotUtf8 = []
 fault_quoted (OfText (InvalidPrefix word)) = encode_utf8_all word
-fault_quoted (OfText (InvalidLength expected seen)) = []
 fault_quoted (OfText (InvalidValue field)) = encode_utf8_all field
+fault_quoted other = []
 
 -- what is told of the text that is that part, or of out of memory
-abbrev pub text_told : IntErrorKind → Part → ℕ → Option TextFault → Fault
-text_told kind at room fault = option_map_or (fault_told kind at room) fault memory_fault
+abbrev pub text_told : IntErrorKind → ℕ → ℕ → ℕ → Option TextFault → Fault
+text_told kind part place room fault = option_map_or (fault_told kind part place room) fault memory_fault
 
 abbrev pub text_quoted : Option TextFault → List ℕ
 text_quoted fault = option_map_or fault_quoted fault []
@@ -97,7 +84,7 @@ pub record IsTextTold (code : ℕ) (told : Fault) (old new : List ℕ) (fault : 
   pub code_told : code ≡ failure_code fault
   pub kind : IntErrorKind
   pub explained : IsNumberError fault kind
-  pub numbers : told ≡ text_told kind whole (length old) fault
+  pub numbers : told ≡ text_told kind no_part 0 (length old) fault
   pub bytes : IsQuoted (text_quoted fault) old new
 
 -- ---- an array of texts
@@ -147,7 +134,7 @@ texts_number_error_of (errors.Build error) = Empty
 -- what is told of an array of texts of which no map is made, or of out of memory
 abbrev pub texts_told : IntErrorKind → ℕ → Option TextsFault → Fault
 texts_told kind room None = memory_fault
-texts_told kind room (Some (UnreadText index fault)) = fault_told kind (text_at index) room fault
+texts_told kind room (Some (UnreadText index fault)) = fault_told kind specification index room fault
 texts_told kind room (Some (UnbuiltTexts fault)) = build_told fault
 
 -- where the fault is that of a field of a text, this is how it is no number
@@ -157,9 +144,8 @@ IsNumberErrorIn other kind = ⊤
 
 -- what is quoted of an array of texts
 abbrev pub texts_quoted : Option TextsFault → List ℕ
-texts_quoted None = []
 texts_quoted (Some (UnreadText index fault)) = fault_quoted fault
-texts_quoted (Some (UnbuiltTexts fault)) = []
+texts_quoted other = []
 
 -- what is wrong with an array of texts, or out of memory, is told and quoted
 pub record AreTextsTold (code : ℕ) (told : Fault) (old new : List ℕ) (fault : Option TextsFault) : Type 0 where

@@ -21,13 +21,9 @@ use Rattle.virtiofs_map_c.specs.declared.fault.Fault.{Fault}
 
 -- ---- how a fault is told
 
--- a fault of a value as a whole
-abbrev pub value_told : ℕ → ℕ → Fault
-value_told kind part = told_at kind part 0 0 0
-
 -- a version, or a revision, that there is not
 abbrev pub version_told : ℕ → ℕ → Fault
-version_told part version = record (value_told 20 part) { seen = version }
+version_told part version = record (told_at 20 part 0 0 0) { seen = version }
 
 -- the kind of what is wrong with an entry
 abbrev pub entry_kind : EntryFault → ℕ
@@ -39,10 +35,10 @@ entry_kind Merges = 27
 
 -- why a list does not go across, where room is lent for that many entries
 abbrev pub acl_told : ℕ → AclError → Fault
-acl_told room lists.TooShort = value_told 19 acl_value
+acl_told room lists.TooShort = told_at 19 acl_value 0 0 0
 acl_told room (lists.Version version) = version_told acl_value version
-acl_told room lists.Length = value_told 21 acl_value
-acl_told room (lists.Room needed) = record (value_told 22 acl_value) { expected = needed; seen = room }
+acl_told room lists.Length = told_at 21 acl_value 0 0 0
+acl_told room (lists.Room needed) = record (told_at 22 acl_value 0 0 0) { expected = needed; seen = room }
 acl_told room (lists.Entry k fault) = told_at (entry_kind fault) acl_entry k 0 0
 
 -- its code
@@ -55,12 +51,12 @@ acl_code error = refused
 
 -- why a capability does not
 abbrev pub capability_told : CapabilityError → Fault
-capability_told capabilities.TooShort = value_told 19 capability_value
+capability_told capabilities.TooShort = told_at 19 capability_value 0 0 0
 capability_told (capabilities.Revision revision) = version_told capability_value revision
-capability_told capabilities.Length = value_told 21 capability_value
-capability_told capabilities.NoId = value_told 25 capability_value
-capability_told capabilities.Forbidden = value_told 26 capability_value
-capability_told capabilities.RootMoves = value_told 28 capability_value
+capability_told capabilities.Length = told_at 21 capability_value 0 0 0
+capability_told capabilities.NoId = told_at 25 capability_value 0 0 0
+capability_told capabilities.Forbidden = told_at 26 capability_value 0 0 0
+capability_told capabilities.RootMoves = told_at 28 capability_value 0 0 0
 
 -- its code
 abbrev pub capability_code : CapabilityError → ℕ

@@ -1,21 +1,19 @@
 //! Specifications of ids, as C hands them over.
-ghost use Rattle.std.specs.Prelude.{◌≡◌, Some, IfOk, IfErr};
-ghost use Rattle.std.specs.Option.{option_map_or};
+ghost use Rattle.std.specs.Prelude.{◌≡◌, ◌<◌, length, Some, IfOk, IfErr, IfSome};
+ghost use Rattle.std.specs.Option.{option_map, option_map_or};
 ghost use Rattle.virtiofs_map.specs.Build.{build_fault_of};
 ghost use Rattle.virtiofs_map.specs.Refusal.{OutOfMemoryOr};
-ghost use Rattle.virtiofs_map_c.specs.Arrays.{said, spec_as_c, HasNoTarget, AreSaid, HasArrayFault, array_fault_of};
-ghost use Rattle.virtiofs_map_c.specs.Faults.{build_told, direction_number, memory_fault, failure_code};
+ghost use Rattle.virtiofs_map_c.specs.Arrays.{said, spec_as_c, HasNoTarget, AreSaid, HasArrayFault, array_fault_of, place_of, counted_on};
+ghost use Rattle.virtiofs_map_c.specs.Faults.{build_told, direction_number, memory_fault, failure_code, told_at};
+ghost use Rattle.virtiofs_map_c.specs.Codes.{specification};
 ghost use Rattle.virtiofs_map_c.specs.Makes.{IsArrayTold};
 
 mod errors;
-mod later;
 mod spec;
 
-use crate::buffer::Quoted;
 use crate::codes::{NO_MEMORY, REFUSED, SPECIFICATION};
 use crate::fault::Fault;
 pub use errors::ArrayError;
-pub use later::behind;
 pub use spec::Spec;
 use std::alloc::Global;
 use virtiofs_map::cmdline;
@@ -119,74 +117,74 @@ pub fn spec_of(spec: cmdline::IdMap) -> Spec
     }
 }
 
+/// Counts the place of a second array's error on behind those of the first.
+pub fn behind(specs: &[Spec], others: &[Spec], error: &mut ArrayError)
+    requires { IfSome (array_fault_of error.old) (λ fault. place_of fault < length others.now) }
+    ensures { array_fault_of error.new
+        ≡ option_map (counted_on (length specs.now)) (array_fault_of error.old) }
+{
+    let before = specs.len();
+    match error {
+        ArrayError::UnknownKind { index } => *index += before,
+        ArrayError::Build(IdMapBuildError::RangeOverflow { index, .. }) => *index += before,
+        ArrayError::Build(IdMapBuildError::Intersects { index, .. }) => *index += before,
+        ArrayError::Build(IdMapBuildError::OutOfMemory) => {}
+    }
+}
+
 /// Tells C of an error, and answers its code.
 pub fn tell(error: &ArrayError, fault: &mut Fault) -> u32
     ensures { IsArrayTold result fault.new (array_fault_of error.now) }
 {
     match error {
         ArrayError::UnknownKind { index } => {
-            *fault = Fault::at(3, SPECIFICATION, *index, Quoted::nothing());
-            REFUSED
+            fault.set(REFUSED, Fault::plain(3, SPECIFICATION, *index))
         }
-        ArrayError::Build(error) => {
-            *fault = told_of_build(error);
-            code_of_build(error)
-        }
+        ArrayError::Build(error) => tell_of_build(error, fault),
     }
 }
 
-/// The code of a call that made no map of a list.
-pub fn code_of_build(error: &IdMapBuildError) -> u32
-    ensures { result ≡ failure_code (build_fault_of error.now) }
+/// Tells C of a list of which no map is made, and answers the code.
+pub fn tell_of_build(error: &IdMapBuildError, fault: &mut Fault) -> u32
+    ensures code { result ≡ failure_code (build_fault_of error.now) }
+    ensures told { fault.new ≡ option_map_or build_told (build_fault_of error.now) memory_fault }
 {
     match error {
-        IdMapBuildError::OutOfMemory => NO_MEMORY,
-        IdMapBuildError::RangeOverflow { .. } | IdMapBuildError::Intersects { .. } => REFUSED,
-    }
-}
-
-/// What C is told of a list of which no map is made.
-pub fn told_of_build(error: &IdMapBuildError) -> Fault
-    ensures { result ≡ option_map_or build_told (build_fault_of error.now) memory_fault }
-{
-    match error {
-        IdMapBuildError::OutOfMemory => Fault::of_kind(1),
+        IdMapBuildError::OutOfMemory => fault.set(NO_MEMORY, Fault::of_kind(1)),
         IdMapBuildError::RangeOverflow {
             spec,
             index,
             direction,
             range_end,
-        } => Fault {
-            part: SPECIFICATION,
-            direction: number_of(*direction),
-            end: match range_end {
+        } => {
+            let end = match range_end {
                 RangeEnd::Source => 0,
                 RangeEnd::Target => 1,
-            },
-            place: *index,
-            spec: spec_of(*spec),
-            ..Fault::of_kind(4)
-        },
+            };
+            let told = told_of_spec(4, *spec, *index, *direction);
+            fault.set(REFUSED, Fault { end, ..told })
+        }
         IdMapBuildError::Intersects {
             spec,
             index,
             direction,
-        } => Fault {
-            part: SPECIFICATION,
-            direction: number_of(*direction),
-            place: *index,
-            spec: spec_of(*spec),
-            ..Fault::of_kind(5)
-        },
+        } => fault.set(REFUSED, told_of_spec(5, *spec, *index, *direction)),
     }
 }
 
-/// The number of a direction.
-fn number_of(direction: Direction) -> u32
-    ensures { result ≡ direction_number direction }
+/// A fault of a specification in a direction.
+fn told_of_spec(kind: u32, spec: cmdline::IdMap, place: usize, direction: Direction) -> Fault
+    ensures { result ≡ record (told_at kind specification place 0 0) {
+      direction = direction_number direction;
+      spec = spec_as_c spec;
+    } }
 {
-    match direction {
-        Direction::GuestToHost => 0,
-        Direction::HostToGuest => 1,
+    Fault {
+        direction: match direction {
+            Direction::GuestToHost => 0,
+            Direction::HostToGuest => 1,
+        },
+        spec: spec_of(spec),
+        ..Fault::plain(kind, SPECIFICATION, place)
     }
 }

@@ -54,19 +54,6 @@ pub struct Quoted {
     pub wanted: usize,
 }
 
-impl Quoted {
-    /// Nothing is quoted.
-    pub fn nothing() -> Quoted
-        ensures written { result.written ≡ 0 }
-        ensures wanted { result.wanted ≡ 0 }
-    {
-        Quoted {
-            written: 0,
-            wanted: 0,
-        }
-    }
-}
-
 /// `count` where there is room for that many bytes, else 0.
 fn fitting(room: usize, count: usize) -> usize
     ensures { result ≡ fitting room count }

@@ -1,10 +1,12 @@
 //! Bytes, as C lends them.
 ghost use Rattle.std.specs.List.{before_first};
-ghost use Rattle.std.specs.Prelude.{◌≡◌, ◌==◌, ◌+◌, ◌≤◌, List, length, position, IsTrue};
+ghost use Rattle.std.specs.Prelude.{◌≡◌, ◌==◌, ◌+◌, ◌≤◌, List, length, IsTrue};
 ghost use Rattle.virtiofs_map.specs.LeU64Parts.{le_u64_at};
 ghost use Rattle.virtiofs_map.specs.NamesImage.{IsImage, IsNoImage};
 ghost use Rattle.virtiofs_map.specs.Rule.{MappingRule};
 ghost use Rattle.virtiofs_map_c.specs.Wholes.{AreAllBytes, IsNameMap, IsNoNameMap, cleared};
+
+use virtiofs_map::xattrmap::image::cut_name;
 
 /// Bytes that C lends for reading, and how many they are: two arguments of C.
 ///
@@ -67,13 +69,6 @@ pub fn clear(bytes: &mut [u8])
     }
 }
 
-/// Where the first zero stands.
-fn first_zero(bytes: &[u8]) -> Option<usize>
-    ensures { result ≡ position (λ byte. byte == 0) bytes.now }
-{
-    bytes.iter().position(|byte| *byte == 0)
-}
-
 /// Bytes up to their first zero, as C reads a string.
 pub fn before_zero(bytes: &[u8]) -> &[u8]
     ensures { result.now ≡ before_first (λ byte. byte == 0) bytes.now }
@@ -82,8 +77,6 @@ pub fn before_zero(bytes: &[u8]) -> &[u8]
     if !bytes.contains(&0) {
         return bytes;
     }
-    match first_zero(bytes) {
-        Some(end) => &bytes[..end],
-        None => bytes,
-    }
+    let (name, _) = cut_name(bytes, 0);
+    name
 }

@@ -47,17 +47,35 @@ impl Fault {
     pub fn of_kind(kind: u32) -> Fault
         ensures { result ≡ fault_of_kind kind }
     {
+        Fault::plain(kind, NO_PART, 0)
+    }
+
+    /// A fault of a part of which nothing is quoted.
+    pub fn plain(kind: u32, part: u32, place: usize) -> Fault
+        ensures { result ≡ told_at kind part place 0 0 }
+    {
+        let none = Quoted {
+            written: 0,
+            wanted: 0,
+        };
+        Fault::at(kind, part, place, none)
+    }
+
+    /// A fault of a part: its kind, the part and its place, and what is quoted of the text at fault.
+    pub fn at(kind: u32, part: u32, place: usize, text: Quoted) -> Fault
+        ensures { result ≡ told_at kind part place text.written text.wanted }
+    {
         Fault {
             kind,
-            part: NO_PART,
+            part,
             direction: 0,
             end: 0,
             number: 0,
-            place: 0,
+            place,
             expected: 0,
             seen: 0,
-            quoted: 0,
-            wanted: 0,
+            quoted: text.written,
+            wanted: text.wanted,
             spec: Spec {
                 kind: 0,
                 first: 0,
@@ -67,16 +85,12 @@ impl Fault {
         }
     }
 
-    /// A fault of a part: its kind, the part and its place, and what is quoted of the text at fault.
-    pub fn at(kind: u32, part: u32, place: usize, text: Quoted) -> Fault
-        ensures { result ≡ told_at kind part place text.written text.wanted }
+    /// Tells this fault, and answers the code.
+    pub fn set(&mut self, code: u32, told: Fault) -> u32
+        ensures code { result ≡ code }
+        ensures told { self.new ≡ told }
     {
-        Fault {
-            part,
-            place,
-            quoted: text.written,
-            wanted: text.wanted,
-            ..Fault::of_kind(kind)
-        }
+        *self = told;
+        code
     }
 }

@@ -99,10 +99,7 @@ pub extern "C" fn virtiofs_map_ids_make(
         → TellsThis (IsArrayTold result fault.new) wrong }
 {
     match make_of_array(alloc, specs, words, wanted) {
-        Ok(code) => {
-            *fault = Fault::none();
-            code
-        }
+        Ok(code) => fault.set(code, Fault::none()),
         Err(error) => {
             *wanted = 0;
             clear(words);
@@ -157,10 +154,7 @@ pub extern "C" fn virtiofs_map_ids_make_texts(
         → TellsThis (AreTextsTold result fault.new quoted.old quoted.new) wrong }
 {
     match make_of_texts(alloc, texts, words, wanted) {
-        Ok(code) => {
-            *fault = Fault::none();
-            code
-        }
+        Ok(code) => fault.set(code, Fault::none()),
         Err(error) => {
             *wanted = 0;
             clear(words);
@@ -204,11 +198,8 @@ pub extern "C" fn virtiofs_map_ids_to_host(words: Words<'_>, guest: u32, host: &
     if !are_all(words.lent) {
         return NO_MAP;
     }
-    tell_answer(
-        look_up(words.lent, Direction::GuestToHost, guest),
-        guest,
-        host,
-    )
+    let answer = look_up(words.lent, Direction::GuestToHost, guest);
+    tell_answer(answer, guest, host)
 }
 
 /// The guest's id for a host's.
@@ -228,9 +219,6 @@ pub extern "C" fn virtiofs_map_ids_to_guest(words: Words<'_>, host: u32, guest: 
     if !are_all(words.lent) {
         return NO_MAP;
     }
-    tell_answer(
-        look_up(words.lent, Direction::HostToGuest, host),
-        host,
-        guest,
-    )
+    let answer = look_up(words.lent, Direction::HostToGuest, host);
+    tell_answer(answer, host, guest)
 }

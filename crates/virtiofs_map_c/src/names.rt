@@ -64,10 +64,7 @@ pub extern "C" fn virtiofs_map_names_make(
         → TellsThis (IsBytesTold result fault.new quoted.old quoted.new) wrong }
 {
     match made(alloc, text, bytes, wanted) {
-        Ok(code) => {
-            *fault = Fault::none();
-            code
-        }
+        Ok(code) => fault.set(code, Fault::none()),
         Err(error) => {
             *wanted = 0;
             clear(bytes);

@@ -41,30 +41,18 @@ fn at_fault<'a>(fault: &Fault, quoted: &'a [u8]) -> &'a [u8] {
     if fault.quoted < fault.wanted {
         return b"...";
     }
-    match quoted.get(..fault.quoted) {
-        Some(front) => front,
-        None => quoted,
-    }
+    quoted.get(..fault.quoted).unwrap_or(quoted)
 }
 
-/// Writes words, with what the fault says in the place of each hole.
+/// Writes words, with what the fault says in the place of each hole: the text at fault, or a number.
 fn say(words: &str, fault: &Fault, text: &[u8], out: &mut [u8], len: &mut usize)
     ensures { Goes len.old out.old len.new out.new }
 {
     for byte in words.as_bytes() {
-        say_byte(*byte, fault, text, out, len);
-    }
-}
-
-/// Writes what stands for a byte of words: the text at fault, a number, or the byte itself.
-fn say_byte(byte: u8, fault: &Fault, text: &[u8], out: &mut [u8], len: &mut usize)
-    ensures { Goes len.old out.old len.new out.new }
-{
-    if byte == AT_FAULT {
-        return put_escaped(text, out, len);
-    }
-    match number_at(byte, fault) {
-        Some(number) => put_number(number, out, len),
-        None => put(&[byte], out, len),
+        match number_at(*byte, fault) {
+            Some(number) => put_number(number, out, len),
+            None if *byte == AT_FAULT => put_escaped(text, out, len),
+            None => put(&[*byte], out, len),
+        }
     }
 }

@@ -15,8 +15,8 @@ ghost use Rattle.virtiofs_map_c.specs.Texts.{SaysSpec, TextFault, HasTextFault, 
 mod errors;
 mod range;
 
-use crate::arrays::{Spec, code_of_build, spec_of, told_of_build};
-use crate::buffer::{Quoted, quote};
+use crate::arrays::{Spec, spec_of, tell_of_build};
+use crate::buffer::quote;
 use crate::codes::{NO_MEMORY, NO_PART, OK, REFUSED, SPECIFICATION};
 use crate::fault::Fault;
 pub use errors::{TextError, TextsError};
@@ -67,47 +67,50 @@ pub fn tell_of_texts(error: &TextsError, fault: &mut Fault, quoted: &mut [u8]) -
 {
     match error {
         TextsError::Text { place, cause } => {
-            *fault = told_of_text(cause, SPECIFICATION, *place, quoted);
-            code_of_text(cause)
+            tell_of_text(cause, SPECIFICATION, *place, fault, quoted)
         }
-        TextsError::Build(error) => {
-            *fault = told_of_build(error);
-            code_of_build(error)
-        }
+        TextsError::Build(error) => tell_of_build(error, fault),
     }
 }
 
-/// The code of a text that cannot be read.
-fn code_of_text(error: &TextError) -> u32
-    ensures { result ≡ failure_code (text_fault_of error.now) }
-{
-    match error {
-        TextError::Spec(cmdline::IdMapError::OutOfMemory) => NO_MEMORY,
-        _ => REFUSED,
-    }
-}
-
-/// What C is told of the text at a place.
-fn told_of_text(error: &TextError, part: u32, place: usize, quoted: &mut [u8]) -> Fault
-    ensures told { result ≡ text_told (number_error_of error.now)
-        (record { part = part; place = place }) (length quoted.old) (text_fault_of error.now) }
+/// Tells C of the text at a place, and answers the code.
+fn tell_of_text(
+    error: &TextError,
+    part: u32,
+    place: usize,
+    fault: &mut Fault,
+    quoted: &mut [u8],
+) -> u32
+    ensures code { result ≡ failure_code (text_fault_of error.now) }
+    ensures told { fault.new ≡ text_told (number_error_of error.now)
+        part place (length quoted.old) (text_fault_of error.now) }
     ensures quoted { IsQuoted (text_quoted (text_fault_of error.now)) quoted.old quoted.new }
 {
     match error {
-        TextError::NotUtf8 => Fault::at(2, part, place, Quoted::nothing()),
+        TextError::NotUtf8 => fault.set(REFUSED, Fault::plain(2, part, place)),
         TextError::Spec(cmdline::IdMapError::InvalidPrefix(word)) => {
-            Fault::at(6, part, place, quote(word, quoted))
+            fault.set(REFUSED, Fault::at(6, part, place, quote(word, quoted)))
         }
-        TextError::Spec(cmdline::IdMapError::InvalidLength { expected, seen }) => Fault {
-            expected: *expected,
-            seen: *seen,
-            ..Fault::at(7, part, place, Quoted::nothing())
-        },
-        TextError::Spec(cmdline::IdMapError::InvalidValue { value, error }) => Fault {
-            number: number_of(error),
-            ..Fault::at(8, part, place, quote(value, quoted))
-        },
-        TextError::Spec(cmdline::IdMapError::OutOfMemory) => Fault::of_kind(1),
+        TextError::Spec(cmdline::IdMapError::InvalidLength { expected, seen }) => {
+            let (expected, seen) = (*expected, *seen);
+            let told = Fault::plain(7, part, place);
+            fault.set(
+                REFUSED,
+                Fault {
+                    expected,
+                    seen,
+                    ..told
+                },
+            )
+        }
+        TextError::Spec(cmdline::IdMapError::InvalidValue { value, error }) => {
+            let number = number_of(error);
+            let told = Fault::at(8, part, place, quote(value, quoted));
+            fault.set(REFUSED, Fault { number, ..told })
+        }
+        TextError::Spec(cmdline::IdMapError::OutOfMemory) => {
+            fault.set(NO_MEMORY, Fault::of_kind(1))
+        }
     }
 }
 
@@ -135,13 +138,9 @@ pub extern "C" fn virtiofs_map_spec_read(
     match read(alloc, text) {
         Ok(found) => {
             *spec = spec_of(found);
-            *fault = Fault::none();
-            OK
+            fault.set(OK, Fault::none())
         }
-        Err(error) => {
-            *fault = told_of_text(&error, NO_PART, 0, quoted);
-            code_of_text(&error)
-        }
+        Err(error) => tell_of_text(&error, NO_PART, 0, fault, quoted),
     }
 }
 
@@ -161,10 +160,7 @@ pub extern "C" fn virtiofs_map_range_read(text: &[u8], range: &mut Range, fault:
 {
     let text = match str::from_utf8(text) {
         Ok(text) => text,
-        Err(_) => {
-            *fault = Fault::of_kind(2);
-            return REFUSED;
-        }
+        Err(_) => return fault.set(REFUSED, Fault::of_kind(2)),
     };
     match idmap::UidMap::from_str(text) {
         Ok(found) => {
@@ -173,13 +169,9 @@ pub extern "C" fn virtiofs_map_range_read(text: &[u8], range: &mut Range, fault:
                 outside: found.outside_uid,
                 count: found.count,
             };
-            *fault = Fault::none();
-            OK
+            fault.set(OK, Fault::none())
         }
-        Err(error) => {
-            *fault = told_of_range(&error);
-            REFUSED
-        }
+        Err(error) => fault.set(REFUSED, told_of_range(&error)),
     }
 }
 
@@ -206,8 +198,6 @@ fn number_of(error: &ParseIntError) -> u32
     match error.kind() {
         IntErrorKind::Empty => 0,
         IntErrorKind::InvalidDigit => 1,
-        IntErrorKind::PosOverflow => 2,
-        IntErrorKind::NegOverflow => 2,
-        IntErrorKind::Zero => 2,
+        IntErrorKind::PosOverflow | IntErrorKind::NegOverflow | IntErrorKind::Zero => 2,
     }
 }

@@ -1,5 +1,5 @@
 -- All guests of an audit.
-use Rattle.std.proofs.Common.{◌≡◌, ℕ, ◌+◌, List, [], ◌∷◌, ◌++◌, length, refl, subst, sym, arith}
+use Rattle.std.proofs.Common.{Option, ◌≡◌, ℕ, ◌+◌, List, [], ◌∷◌, ◌++◌, length, refl, subst, sym, arith}
 use Rattle.std.specs.Global.{Global}
 use Rattle.virtiofs_findings.specs.declared.guest.Guest.{Guest}
 use Rattle.virtiofs_host.specs.declared.runner.Runner.{Runner}
@@ -10,7 +10,7 @@ use Rattle.virtiofs_options.specs.declared.guest.Guest as options_guest
 use Rattle.virtiofs_options.specs.declared.options.Options.{Options}
 
 -- one more command line
-pub started_more : (starters : List (Runner Global)) (place : ℕ) (given : List (options_guest.Guest Global))
+pub started_more : (starters : List (Option (Runner Global))) (place : ℕ) (given : List (options_guest.Guest Global))
     (guests : List (Guest Global)) (options : options_guest.Guest Global) (guest : Guest Global) (n : ℕ)
     → AreStarted starters place given guests → place + length guests ≡ n
     → IsStarted (starter_at starters n) options guest

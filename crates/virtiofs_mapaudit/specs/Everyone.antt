@@ -1,7 +1,8 @@
 -- The guests of an audit: those of command lines, each with who starts its daemon, and those of processes.
-use Rattle.std.specs.Prelude.{◌≡◌, ◌==◌, ◌⊎◌, ⊤, ℕ, ◌+◌, List, [], ◌∷◌, ◌++◌, length, map, slice_get, option_map, Option, Some, if◌then◌else◌}
+use Rattle.std.specs.Prelude.{◌≡◌, ◌⊎◌, ⊤, ℕ, ◌+◌, List, [], ◌∷◌, ◌++◌, length, map, slice_get, option_map, Option, Some}
 use Rattle.std.specs.Borrow.{Bor}
 use Rattle.std.specs.Global.{Global}
+use Rattle.std.specs.Option.{option_and_then}
 use Rattle.std.specs.declared.vec.Vec.{Vec}
 use Rattle.virtiofs_findings.specs.declared.guest.Guest.{Guest}
 use Rattle.virtiofs_host.specs.CommandLine.{AreWords, HasWrongWord}
@@ -17,9 +18,9 @@ use Rattle.virtiofs_options.specs.declared.guests.Process.TheVariants as process
 use Rattle.virtiofs_options.specs.declared.options.Options.{Options}
 use Rattle.virtiofs_options.specs.declared.unknown.UnknownWord.{UnknownWord}
 
--- who starts the daemon of the command line at a place: the only one of these, or the one at that place
-abbrev pub starter_at : List (Runner Global) → ℕ → Option (Runner Global)
-starter_at starters place = slice_get starters (if length starters == 1 then 0 else place)
+-- who starts the daemon of the command line at a place, if it is known
+abbrev pub starter_at : List (Option (Runner Global)) → ℕ → Option (Runner Global)
+starter_at starters place = option_and_then (λ it. it) (slice_get starters place)
 
 -- the guest has these options, and that one starts its daemon
 pub record IsStarted (starter : Option (Runner Global)) (options : options_guest.Guest Global) (guest : Guest Global)
@@ -28,7 +29,7 @@ pub record IsStarted (starter : Option (Runner Global)) (options : options_guest
   pub runner : option_map (λ it. it.now) guest.runner ≡ starter
 
 -- so are the guests of command lines, of which the first has that place
-abbrev pub AreStarted : List (Runner Global) → ℕ → List (options_guest.Guest Global) → List (Guest Global) → Type 0
+abbrev pub AreStarted : List (Option (Runner Global)) → ℕ → List (options_guest.Guest Global) → List (Guest Global) → Type 0
 AreStarted starters place [] [] = ⊤
 AreStarted starters place [] (guest ∷ guests) = ⊥
 AreStarted starters place (options ∷ more) [] = ⊥
@@ -86,7 +87,7 @@ AddsProcesses of_daemon (process ∷ more) before after =
     (between : Everyone) × AddsProcess of_daemon process before between × AddsProcesses of_daemon more between after
 
 -- all guests: those of command lines, which these start, and then those of processes, or why one makes none
-pub record AreEveryone (of_daemon : Options) (given : Guests) (starters : List (Runner Global))
+pub record AreEveryone (of_daemon : Options) (given : Guests) (starters : List (Option (Runner Global)))
     (processes : List HostProcess) (all : Everyone) : Type 0 where
   pub before : Everyone
   pub started : AreStarted starters 0 given.guests.items before.guests.items

@@ -30,6 +30,8 @@ pub(crate) struct Request<'a> {
     pub(crate) accepted: &'a [Kind],
     /// The names that ids of the host have.
     pub(crate) known: &'a Known,
+    /// The lines on what is not known of command lines.
+    pub(crate) unknown: &'a [String],
 }
 
 /// What does not depend on guests of what was asked.
@@ -41,12 +43,17 @@ pub(crate) struct Wanted {
     pub(crate) known: Known,
 }
 
-/// The request for that.
-pub(crate) fn request_of(front: Front, wanted: &Wanted) -> Request<'_> {
+/// The request for that of guests, where these lines tell what is not known of their command lines.
+pub(crate) fn request_of<'a>(
+    front: Front,
+    wanted: &'a Wanted,
+    unknown: &'a [String],
+) -> Request<'a> {
     Request {
         front,
         accepted: wanted.accepted.as_slice(),
         known: &wanted.known,
+        unknown,
     }
 }
 

@@ -105,6 +105,8 @@ fn push_range(
             Some(0) =>
                 " -> not among the daemon's ids: creates as the daemon itself, and no file can be given to it\n",
             Some(u32::MAX) => " -> virtiofsd acts as itself\n",
+            Some(OVERFLOW_ID) =>
+                " -> not among the daemon's ids, or what the daemon takes for itself: no file can be given to it\n",
             _ => " -> not among the daemon's ids: no file can be created as it, or given to it\n",
         }),
         (Direction::HostToGuest, Some(id)) => {

@@ -2,6 +2,7 @@
 
 use crate::words::{Extent, Ordinal, is_one, many_of, one_of, ranging};
 use std::alloc::{AllocError, Global};
+use virtiofs_findings::explain::ids::OVERFLOW_ID;
 use virtiofs_findings::finding::{About, Evidence, Finding, Kind};
 use virtiofs_findings::ids::found::IdsFound;
 use virtiofs_findings::ids::kind::IdKind;
@@ -151,6 +152,7 @@ fn push_phrases<'a>(
     let why = match found.host {
         u32::MAX => "which is no id to Linux, so that virtiofsd acts as itself",
         0 => "which is not among the daemon's ids, and creates as the daemon itself",
+        OVERFLOW_ID => "which is not among the daemon's ids, or which the daemon takes for itself",
         _ => "which is not among the daemon's ids",
     };
     let shared = match found.is_shared {

@@ -47,19 +47,21 @@ pub(crate) struct Everyone<'a> {
     pub(crate) faults: Vec<ProcessFault<'a>>,
 }
 
-/// Who starts the daemon of the command line at a place: the only one of these, or the one at that
-/// place.
-fn starter_at(starters: &[Runner<Global>], place: usize) -> Option<&Runner<Global>>
+/// Who starts the daemon of the command line at a place, if it is known.
+fn starter_at(starters: &[Option<Runner<Global>>], place: usize) -> Option<&Runner<Global>>
     ensures { option_map (λ it. it.now) result ≡ starter_at starters.now place }
 {
-    starters.get(if starters.len() == 1 { 0 } else { place })
+    match starters.get(place) {
+        Some(Some(runner)) => Some(runner),
+        _ => None,
+    }
 }
 
 /// The guests of command lines, each with who starts its daemon.
 fn started<'a>(
     alloc: Global,
     given: Vec<GuestOptions<'a, Global>>,
-    starters: &'a [Runner<Global>],
+    starters: &'a [Option<Runner<Global>>],
 ) -> Result<Vec<Guest<'a, Global>>, AllocError>
     ensures { IfOk result (λ guests. AreStarted starters.now 0 given.entry.items guests.items) }
 {
@@ -131,7 +133,7 @@ pub(crate) fn all_guests<'a>(
     alloc: Global,
     of_daemon: Options,
     given: Guests<'a>,
-    starters: &'a [Runner<Global>],
+    starters: &'a [Option<Runner<Global>>],
     processes: &'a [HostProcess],
 ) -> Result<Everyone<'a>, AllocError>
     ensures { IfOk result (AreEveryone of_daemon given.entry starters.now processes.now) }

@@ -8,12 +8,15 @@ use std::{fs, io};
 use virtiofs_host::command_line::read_command_line;
 use virtiofs_host::decimal::decimal;
 use virtiofs_host::error::ReadError as TextError;
-use virtiofs_host::runner::{NotShown, Runner, Shown, group_of, read_run_as, running, starting};
+use virtiofs_host::runner::{
+    NotShown, RunAs, Runner, Shown, group_of, read_run_as, running, starting,
+};
 use virtiofs_host::status::parent;
 use virtiofs_host::subordinate::has_carriage_return;
-use virtiofs_host::users::find_user;
+use virtiofs_host::users::{find_user, read_names};
 use virtiofs_options::fault::{ReadError, shown};
 use virtiofs_options::front::Asked;
+use virtiofs_options::guest::Guest;
 use virtiofs_options::options::OF_DAEMON;
 use virtiofs_options::running::{runs_daemon, shared_directory};
 use virtiofs_options::values::Values;
@@ -21,9 +24,8 @@ use virtiofs_options::values::Values;
 /// What the host tells.
 #[derive(Drop)]
 pub(crate) struct Host {
-    /// Who starts the daemons of the command lines: nobody that is named, one user for all, or one for
-    /// each.
-    pub(crate) starters: Vec<Runner<Global>>,
+    /// Who starts the daemon of each command line, if it is known.
+    pub(crate) starters: Vec<Option<Runner<Global>>>,
     /// The processes: all that are named, or of those that run the ones of each directory.
     pub(crate) shares: Vec<Share>,
 }
@@ -124,28 +126,85 @@ fn wrong_value(alloc: Global, text: &str, what: &str) -> HostFault {
     }
 }
 
-/// The user who starts a daemon, as `--run-as` says.
+/// The user of that name or number, and the group, if a number of one is said.
+fn run_as_of(rt: &HostRuntime, passwd: &[u8], text: &str) -> Result<Option<RunAs>, AllocError> {
+    if let Some(run_as) = read_run_as(text) {
+        return Ok(Some(run_as));
+    }
+    let (name, group) = match text.split_once(':') {
+        Some((name, group)) => (name, Some(group)),
+        None => (text, None),
+    };
+    let gid = match group {
+        Some(group) => match decimal(group.as_bytes()) {
+            Some(gid) => Some(gid),
+            None => return Ok(None),
+        },
+        None => None,
+    };
+    for named in read_names(rt.alloc(), passwd)?.as_slice() {
+        if named.name == name.as_bytes() {
+            return Ok(Some(RunAs { uid: named.id, gid }));
+        }
+    }
+    Ok(None)
+}
+
+/// That user, as the runner of that place of the daemons that it starts; `None` where `/etc/passwd` has no
+/// such user, or its group is not known.
 fn starter(
     rt: &HostRuntime,
     values: &Values<'_>,
     text: &str,
     place: usize,
-) -> Result<Runner<Global>, HostFault> {
-    let Some(run_as) = read_run_as(text) else {
-        let what = "user: --run-as takes UID or UID:GID, such as $(id -u NAME)";
-        return Err(wrong_value(rt.alloc(), text, what));
-    };
+) -> Result<Option<Runner<Global>>, HostFault> {
     let passwd = usual_content(rt, "/etc/passwd")?;
+    let Some(run_as) = run_as_of(rt, passwd.as_slice(), text)? else {
+        return Ok(None);
+    };
     let (uid, user) = (run_as.uid, find_user(passwd.as_slice(), run_as.uid));
     let Some(gid) = group_of(run_as, user) else {
-        return Err(told(format!(in rt.alloc();
-            "/etc/passwd has no user {uid}: say the group too, as --run-as {uid}:GID\n"
-        )));
+        return Ok(None);
     };
     let subuid = subordinate(rt, values.subuid.as_slice(), "/etc/subuid")?;
     let subgid = subordinate(rt, values.subgid.as_slice(), "/etc/subgid")?;
     let (subuid, subgid) = (subuid.as_slice(), subgid.as_slice());
-    Ok(starting(rt.alloc(), uid, gid, user, subuid, subgid, place)?)
+    Ok(Some(starting(rt.alloc(), uid, gid, user, subuid, subgid, place)?))
+}
+
+/// Why `--run-as` names nobody.
+fn no_starter(alloc: Global, text: &str) -> HostFault {
+    match read_run_as(text) {
+        Some(RunAs { uid, .. }) => told(format!(in alloc;
+            "/etc/passwd has no user {uid}: say the group too, as --run-as {uid}:GID\n"
+        )),
+        None => wrong_value(
+            alloc,
+            text,
+            "user: --run-as takes UID, UID:GID, or a name that /etc/passwd has",
+        ),
+    }
+}
+
+/// Who starts the daemon of the command line at a place: as `--run-as` says, or else as its words do.
+fn starter_at(
+    rt: &HostRuntime,
+    values: &Values<'_>,
+    guest: &Guest<'_, Global>,
+    place: usize,
+) -> Result<Option<Runner<Global>>, HostFault> {
+    let said = values.run_as.as_slice();
+    let place = if said.len() == 1 { 0 } else { place };
+    if let Some(text) = said.get(place) {
+        return match starter(rt, values, text, place)? {
+            Some(runner) => Ok(Some(runner)),
+            None => Err(no_starter(rt.alloc(), text)),
+        };
+    }
+    match guest.starter.user {
+        Some(text) => starter(rt, values, text, 0),
+        None => Ok(None),
+    }
 }
 
 /// The process of that number and command line, whose runner has that place among all runners.
@@ -346,31 +405,33 @@ fn shares_of(rt: &HostRuntime, daemons: &[Daemon]) -> Result<Vec<Share>, HostFau
     Ok(shares)
 }
 
-/// The users who start the daemons of so many command lines.
+/// Who starts the daemons of command lines.
 fn starters_of(
     rt: &HostRuntime,
     values: &Values<'_>,
-    guests: usize,
-) -> Result<Vec<Runner<Global>>, HostFault> {
+    guests: &[Guest<'_, Global>],
+) -> Result<Vec<Option<Runner<Global>>>, HostFault> {
     let users = values.run_as.len();
-    if users == 0 && !(values.subuid.is_empty() && values.subgid.is_empty()) {
-        return Err(told(format!(in rt.alloc();
-            "'--subuid' and '--subgid' are for '--run-as', which is not given\n"
-        )));
-    }
-    if users > 0 && guests == 0 {
+    if users > 0 && guests.is_empty() {
         return Err(told(format!(in rt.alloc();
             "'--run-as' is for a command line, and there is none\n"
         )));
     }
-    if users > 1 && users != guests {
+    if users > 1 && users != guests.len() {
         return Err(told(format!(in rt.alloc();
             "give '--run-as' once, or once for each command line\n"
         )));
     }
     let mut starters = Vec::new(rt.alloc());
-    for text in values.run_as.as_slice() {
-        starters.push(starter(rt, values, text, starters.len())?)?;
+    for (place, guest) in guests.iter().enumerate() {
+        starters.push(starter_at(rt, values, guest, place)?)?;
+    }
+    if starters.iter().all(|it| it.is_none())
+        && !(values.subuid.is_empty() && values.subgid.is_empty())
+    {
+        return Err(told(format!(in rt.alloc();
+            "'--subuid' and '--subgid' are for '--run-as', which is not given\n"
+        )));
     }
     Ok(starters)
 }
@@ -380,9 +441,10 @@ fn check_running(
     rt: &HostRuntime,
     asked: Asked,
     values: &Values<'_>,
-    guests: usize,
+    guests: &[Guest<'_, Global>],
 ) -> Result<(), HostFault> {
-    if asked.running && (asked.svg || asked.mend || guests > 0 || !values.pid.is_empty()) {
+    let others = !guests.is_empty() || !values.pid.is_empty();
+    if asked.running && (asked.svg || asked.mend || others) {
         return Err(told(format!(in rt.alloc();
             "'--running' goes with neither '--pid', '--svg', '--mend' nor a command line\n"
         )));
@@ -391,12 +453,12 @@ fn check_running(
 }
 
 /// Asks the host about the users and the processes that the words name, or about the daemons that run,
-/// where there are so many command lines.
+/// where these are the guests of command lines.
 pub(crate) fn ask(
     rt: &HostRuntime,
     asked: Asked,
     values: &Values<'_>,
-    guests: usize,
+    guests: &[Guest<'_, Global>],
 ) -> Result<Host, HostFault> {
     check_running(rt, asked, values, guests)?;
     let starters = starters_of(rt, values, guests)?;

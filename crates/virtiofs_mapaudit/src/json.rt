@@ -5,7 +5,7 @@ use crate::fields::{Field, fields_of};
 use crate::kinds::row_of;
 use crate::losses::losses_of;
 use crate::refusal::refusal_line;
-use crate::shell::words_of;
+use crate::shell::{is_joined, words_of};
 use crate::summary::parts_of;
 use crate::tables::{NameAnswer, SHOWN, answer_of};
 use crate::text::are_of_same;
@@ -239,9 +239,15 @@ fn options_value(alloc: Global, guests: &[Guest<'_, Global>]) -> Built {
     for guest in guests {
         let mut words = Vec::new(alloc);
         for (option, value) in words_of(alloc, &guest.options)? {
-            words.push(Value::try_from_str(alloc, option)?)?;
-            if let Some(value) = value {
-                words.push(Value::try_from_str(alloc, value)?)?;
+            match value {
+                Some(value) if is_joined(value) => {
+                    words.push(Value::String(format!(in alloc; "{option}={value}")?))?;
+                }
+                Some(value) => {
+                    words.push(Value::try_from_str(alloc, option)?)?;
+                    words.push(Value::try_from_str(alloc, value)?)?;
+                }
+                None => words.push(Value::try_from_str(alloc, option)?)?,
             }
         }
         list.push(Value::Array(words))?;
@@ -292,9 +298,13 @@ pub(crate) fn report_as_json(
     }
     let findings = findings_value(alloc, request.accepted, report.all.findings.as_slice())?;
     let advised = advised_value(alloc, request.accepted, report)?;
+    let mut unknown = Vec::new(alloc);
+    for line in request.unknown {
+        unknown.push(Value::try_from_str(alloc, line.as_str())?)?;
+    }
     let value = json!(in alloc; {
         "schema": 4, "guests": guests, "findings": findings, "refused": refused,
-        "advised": advised
+        "unknown": unknown, "advised": advised
     })?;
     let mut text = value.to_string(alloc)?;
     text.push_str("\n")?;

@@ -21,7 +21,7 @@ mod text;
 mod whole;
 mod words;
 
-use crate::answer::{Answer, Request, Wanted, answer_audit, request_of};
+use crate::answer::{Answer, Wanted, answer_audit, request_of};
 use crate::explained::{answer_questions, question_sentence};
 use crate::files::{HostFault, any_content, named_text};
 use crate::guests::{Everyone, ProcessFault, all_guests};
@@ -125,16 +125,22 @@ fn process_text(alloc: Global, fault: ProcessFault<'_>) -> Result<String, AllocE
 /// What is answered on guests, and which words are not known.
 fn answer_on(
     alloc: Global,
-    request: Request<'_>,
+    asked: Asked,
+    wanted: &Wanted,
     questions: &[Question<'_>],
     all: &Everyone<'_>,
 ) -> Result<Answer, AllocError> {
-    let mut answer = match questions.is_empty() {
-        true => answer_audit(alloc, request, all.guests.as_slice())?,
-        false => answer_questions(alloc, questions, all.guests.as_slice())?,
-    };
+    let mut unknown = Vec::new(alloc);
     for word in all.unknown.as_slice() {
-        answer.further.push(unknown_line(alloc, *word)?)?;
+        unknown.push(unknown_line(alloc, *word)?)?;
+    }
+    let guests = all.guests.as_slice();
+    let mut answer = match questions.is_empty() {
+        true => { answer_audit(alloc, request_of(asked, wanted, unknown.as_slice()), guests)? }
+        false => answer_questions(alloc, questions, guests)?,
+    };
+    for line in unknown {
+        answer.further.push(line)?;
     }
     Ok(answer)
 }
@@ -189,15 +195,14 @@ fn audited<'a>(
             return Ok(wrong(rt, text.as_str()));
         }
     };
-    let host = match ask(rt, asked, values, given.guests.len()) {
+    let host = match ask(rt, asked, values, given.guests.as_slice()) {
         Ok(host) => host,
         Err(HostFault::Told(text)) => return Ok(wrong(rt, text.as_str())),
         Err(HostFault::OutOfMemory) => return Err(AnswerFault::OutOfMemory),
     };
     let known = known_here(rt, asked.running || !values.pid.is_empty())?;
     let wanted = Wanted { accepted, known };
-    let request = request_of(asked, &wanted);
-    audited_on(rt, request, questions.as_slice(), &host, given)
+    audited_on(rt, asked, &wanted, questions.as_slice(), &host, given)
 }
 
 /// The lines on processes of a directory that are not checked.
@@ -223,7 +228,8 @@ fn unread_lines(
 /// itself, where those that run are asked for.
 fn audited_on<'a>(
     rt: &HostRuntime,
-    request: Request<'_>,
+    asked: Asked,
+    wanted: &Wanted,
     questions: &[Question<'_>],
     host: &'a Host,
     given: Guests<'a>,
@@ -237,19 +243,19 @@ fn audited_on<'a>(
         });
         let (starters, processes) = (host.starters.as_slice(), share.processes.as_slice());
         let all = all_guests(rt.alloc(), OF_DAEMON, given, starters, processes)?;
-        if !request.front.running
+        if !asked.running
             && let Some(fault) = all.faults.first()
         {
             return Ok(wrong(rt, process_text(rt.alloc(), *fault)?.as_str()));
         }
         said.push(Said {
             directory: share.directory.as_str(),
-            answer: answer_on(rt.alloc(), request, questions, &all)?,
+            answer: answer_on(rt.alloc(), asked, wanted, questions, &all)?,
             has_guests: !all.guests.is_empty(),
             unread: unread_lines(rt.alloc(), share, all.faults.as_slice())?,
         })?;
     }
-    told_of(rt, request.front, said.as_slice())
+    told_of(rt, asked, said.as_slice())
 }
 
 /// Writes what is said of directories.

@@ -1,6 +1,6 @@
-//! The line on a text of options that is refused.
+//! The line on what is refused of a guest.
 
-use crate::words::{Ordinal, ranging, translating};
+use crate::words::{Ordinal, one_of, ranging, translating};
 use std::alloc::{AllocError, Global};
 use virtiofs_findings::refusal::{Refusal, Refused};
 use virtiofs_options::shown::Shown;
@@ -12,6 +12,12 @@ pub(crate) fn refusal_line(alloc: Global, refusal: &Refusal<Global>) -> Result<S
     let (option, place) = match refusal.what {
         Refused::Spec(kind, place) => (translating(kind), place),
         Refused::Range(kind, place) => (ranging(kind), place),
+        Refused::Own(kind) => {
+            let one = one_of(kind);
+            return format!(in alloc;
+                "guest {guest}: as which {one} its daemon acts is not known: --run-as USER tells"
+            );
+        }
         Refused::Rules => {
             return format!(in alloc; "guest {guest}: --xattrmap is refused: {why}");
         }

@@ -74,6 +74,12 @@ pub(crate) fn words_of<'g>(
     Ok(words)
 }
 
+/// Whether a value is one word with its option, behind a `=`: as a word of its own it would be taken for an
+/// option.
+pub(crate) fn is_joined(value: &str) -> bool {
+    value.starts_with('-')
+}
+
 /// Writes the options of a guest at the end of a text, each between two texts.
 pub(crate) fn push_options(
     alloc: Global,
@@ -86,8 +92,8 @@ pub(crate) fn push_options(
         text.push_str(before)?;
         text.push_str(option)?;
         if let Some(value) = value {
-            let word = ShellWord(value);
-            write!(text, " {word}")?;
+            let (between, word) = (if is_joined(value) { '=' } else { ' ' }, ShellWord(value));
+            write!(text, "{between}{word}")?;
         }
         text.push_str(after)?;
     }

@@ -10,7 +10,7 @@ use virtiofs_findings::setup::{IdSetUp, NamesSetUp, SetUp};
 use virtiofs_map::idmap::UidMap;
 use virtiofs_map::soft_idmap::{Direction, Outcome, Piece};
 use virtiofs_options::guest::Guest as GuestOptions;
-use virtiofs_options::starter::Starter;
+use virtiofs_options::starter::By;
 
 /// The numbers of the guests that have the options of one, where these are the likes of each: runs of
 /// them, from one to another.
@@ -294,7 +294,7 @@ pub(crate) fn is_of_root(guest: &Guest<'_, Global>) -> bool {
         Some(runner) => runner.users.own == 0,
         None => {
             let has_ranges = !options.uid_map.is_empty() || !options.gid_map.is_empty();
-            matches!(options.starter, Starter::ByRoot) && !has_ranges
+            matches!(options.starter.by, By::Root) && !has_ranges
         }
     }
 }
@@ -303,35 +303,35 @@ pub(crate) fn is_of_root(guest: &Guest<'_, Global>) -> bool {
 const IN_NAMESPACE: &str =
     " in a user namespace, which is called the host below (--pid of the running daemon tells the host's ids)";
 
-/// Writes that words start the daemon of a guest in a user namespace at the end of a text, if they do.
-pub(crate) fn push_namespace_note(
-    text: &mut String,
-    guest: &Guest<'_, Global>,
-) -> Result<(), AllocError> {
+/// Whether words start the daemon of a guest in a user namespace, and it does not run already.
+pub(crate) fn is_in_namespace(guest: &Guest<'_, Global>) -> bool {
     let runs = match guest.runner {
         Some(runner) => runner.process.is_some(),
         None => false,
     };
-    if matches!(guest.options.starter, Starter::InNamespace) && !runs {
+    matches!(guest.options.starter.by, By::InNamespace) && !runs
+}
+
+/// Writes that at the end of a text, if they do.
+pub(crate) fn push_namespace_note(
+    text: &mut String,
+    guest: &Guest<'_, Global>,
+) -> Result<(), AllocError> {
+    if is_in_namespace(guest) {
         return text.push_str(IN_NAMESPACE);
     }
     Ok(())
 }
 
-/// Writes who runs the daemon of a guest at the end of a text. Another user who is not known, and has not
-/// ranges of both kinds, counts as root in what else is said.
+/// Writes who runs the daemon of a guest at the end of a text.
 pub(crate) fn push_runner(text: &mut String, guest: &Guest<'_, Global>) -> Result<(), AllocError> {
     let Some(runner) = guest.runner else {
-        if matches!(guest.options.starter, Starter::InNamespace) {
+        if is_in_namespace(guest) {
             text.push_str(", started")?;
             return push_namespace_note(text, guest);
         }
-        let (users, groups) = (&guest.options.uid_map, &guest.options.gid_map);
         return text.push_str(match is_of_root(guest) {
             true => ", taken as started by root (--run-as USER)",
-            false if users.is_empty() || groups.is_empty() => {
-                ", started by another user, audited as root's (--run-as USER)"
-            }
             false => ", taken as started by another user than root (--run-as USER)",
         });
     };

@@ -6,7 +6,7 @@ use crate::kinds::{KERNEL, RECIPES, row_of};
 use crate::known::push_known;
 use crate::losses::losses_of;
 use crate::shell::push_options;
-use crate::summary::{is_of_root, push_numbers, push_set_up, push_summary};
+use crate::summary::{is_in_namespace, is_of_root, push_numbers, push_set_up, push_summary};
 use crate::tables::push_tables;
 use std::alloc::{AllocError, Global};
 use virtiofs_findings::advice::Advised;
@@ -149,9 +149,14 @@ fn push_left(
 
 /// The recipe for a finding. In a namespace, and with access control lists on, virtiofsd is to run as
 /// another user, since specifications go with neither.
-fn recipe_of(sets: &[SetUp<Global>], finding: &Finding<Global>) -> Option<&'static str> {
+fn recipe_of(
+    guests: &[Guest<'_, Global>],
+    sets: &[SetUp<Global>],
+    finding: &Finding<Global>,
+) -> Option<&'static str> {
     let is_of_ids = matches!(finding.kind, Kind::Root | Kind::Lacking);
     if let About::Guest(number) = finding.about
+        && let Some(guest) = guests.get(number.saturating_sub(1))
         && let Some(set) = sets.get(number.saturating_sub(1))
         && is_of_ids
     {
@@ -159,7 +164,8 @@ fn recipe_of(sets: &[SetUp<Global>], finding: &Finding<Global>) -> Option<&'stat
             Some(users) => !users.ranges.is_empty(),
             None => false,
         };
-        if set.posix_acl || has_ranges && finding.kind == Kind::Root {
+        let in_namespace = has_ranges || is_in_namespace(guest);
+        if set.posix_acl || in_namespace && finding.kind == Kind::Root {
             return Some(KERNEL);
         }
     }
@@ -170,13 +176,14 @@ fn recipe_of(sets: &[SetUp<Global>], finding: &Finding<Global>) -> Option<&'stat
 fn push_recipes(
     text: &mut String,
     accepted: &[Kind],
+    guests: &[Guest<'_, Global>],
     sets: &[SetUp<Global>],
     found: &[Finding<Global>],
 ) -> Result<(), AllocError> {
     let mut has_one = false;
     for recipe in RECIPES {
         if found.iter().any(|it| !is_accepted(accepted, it.kind)
-            && recipe_of(sets, it) == Some(recipe))
+            && recipe_of(guests, sets, it) == Some(recipe))
         {
             text.push_str(if has_one {
                 ", "
@@ -251,7 +258,7 @@ fn push_advised(
     }
     push_left(alloc, text, accepted, likes.as_slice(), found)?;
     if has_found(accepted, found) {
-        push_recipes(text, accepted, advised.sets.as_slice(), found)?;
+        push_recipes(text, accepted, guests, advised.sets.as_slice(), found)?;
     }
     Ok(())
 }
@@ -261,6 +268,7 @@ fn push_closing(
     alloc: Global,
     text: &mut String,
     accepted: &[Kind],
+    guests: &[Guest<'_, Global>],
     report: &Reported<'_>,
 ) -> Result<(), AllocError> {
     let found = report.all.findings.as_slice();
@@ -273,7 +281,7 @@ fn push_closing(
             Some(advised) => {
                 push_advised(alloc, text, accepted, report.all.sets.as_slice(), advised)
             }
-            None => push_recipes(text, accepted, report.all.sets.as_slice(), found),
+            None => push_recipes(text, accepted, guests, report.all.sets.as_slice(), found),
         };
     }
     text.push_str(match (are_refused, has_accepted(accepted, found)) {
@@ -293,7 +301,7 @@ fn push_rights(text: &mut String, guests: &[Guest<'_, Global>]) -> Result<(), Al
     }
     if guests.iter().any(|guest| !is_of_root(guest)) {
         text.push_str(
-            "a daemon of another user opens for the guest's root what that user may open, and files whose user and group its ranges have\n",
+            "a daemon of another user opens for the guest's root what its own user may open (with ranges that have 0: the user that 0 is), and files whose user and group its ranges have\n",
         )?;
     }
     Ok(())
@@ -311,7 +319,7 @@ pub(crate) fn report_as_text(
     push_guests(alloc, &mut text, request, guests, likes.as_slice(), report)?;
     push_pairs(alloc, &mut text, request.accepted, likes.as_slice(), found)?;
     push_rights(&mut text, guests)?;
-    push_closing(alloc, &mut text, request.accepted, report)?;
+    push_closing(alloc, &mut text, request.accepted, guests, report)?;
     Ok(text)
 }
 

@@ -1,5 +1,5 @@
 -- The words of the program have one answer alone.
-use Rattle.std.proofs.Common.{ℕ, List, inl, inr, sym, ◌∙◌, subst}
+use Rattle.std.proofs.Common.{rules, ℕ, List, inl, inr}
 use Rattle.virtiofs_mapcheck.specs.Answer.{AnswersForm, HasOneAnswer}
 use Rattle.virtiofs_mapcheck.specs.Outcome.{AreOne}
 use Rattle.virtiofs_mapcheck.specs.Words.{Form, Ids, Namespace, Client, Server, Terminated, Audit, Apart}
@@ -20,11 +20,9 @@ AnswersForm-one (Apart first second) = AnswersApart-one first second
 
 pub HasOneAnswer-words : (words : List (List ℕ)) → HasOneAnswer words
 HasOneAnswer-words words answered other text another (inl (form, has, one)) (inl (form', had, two)) =
-    AnswersForm-one form' answered other text another
-    (subst (λ (f : Form). AnswersForm f answered text) (HasForm-one words form form' has had) one) two
-HasOneAnswer-words words answered other text another (inl (form, has, one)) (inr (none, outcome, is)) =
+    AnswersForm-one form' answered other text another (rw (HasForm-one words form form' has had) at one) two
+HasOneAnswer-words words answered other text another (inl (form, has, one)) (inr (none, told, is)) =
     absurd (none form has)
-HasOneAnswer-words words answered other text another (inr (none, outcome, is)) (inl (form, has, two)) =
+HasOneAnswer-words words answered other text another (inr (none, told, is)) (inl (form, has, two)) =
     absurd (none form has)
-HasOneAnswer-words words answered other text another (inr (none, outcome, is)) (inr (none', outcome', such)) =
-    (outcome ∙ sym outcome', is ∙ sym such)
+HasOneAnswer-words words answered other text another (inr one) (inr two) = search rules

@@ -1,15 +1,14 @@
 -- What holds of all names has one answer under a text of rules.
-use Rattle.std.proofs.Common.{◌≡◌, ◌≢◌, ℕ, List, [], ◌++◌, codes, Ordering, Less, Equal, Greater, nat_cmp, is_eq, inl}
-use Rattle.std.proofs.Common.{inr, refl, sym, ap, ◌∙◌, Result, Ok, Err, IfOk, String, string_bytes}
+use Rattle.std.proofs.Common.{rules, arith, ◌≡◌, ◌≢◌, ℕ, List, codes, Ordering, Less, Equal, nat_cmp, is_eq, inl, inr}
+use Rattle.std.proofs.Common.{sym, ap, ◌∙◌, Result, IfOk, String, string_bytes}
 use Rattle.std.specs.Cmp.Lexicographic.{slice_cmp}
 use Rattle.std.specs.Ordering.{ordering_reverse}
 use Rattle.std.specs.Str.{chars}
 use Rattle.std.proofs.lemmas.Cmp.{nat_list_cmp_total}
 use Rattle.std.proofs.lemmas.Map.Text.{is_eq-slice_cmp}
 use Rattle.std.proofs.lemmas.Slice.Eq.{bytes_eq-Decides}
-use Rattle.virtiofs_map.specs.Audit.{IsBefore, IsLeast, AnswersLeast, IsLost, IsSeen}
+use Rattle.virtiofs_map.specs.Audit.{IsBefore, IsLeast, AnswersLeast, IsSeen}
 use Rattle.virtiofs_map.specs.declared.audit.answer.Audit.{Audit}
-use Rattle.virtiofs_map.specs.declared.audit.answer.Audit.TheVariants.{Yes, No}
 use Rattle.virtiofs_map.specs.Rule.{MappingRule}
 use Rattle.virtiofs_map.specs.RuleText.{SaysRules}
 use Rattle.virtiofs_mapcheck.specs.AuditsAnswer.{SaysLeast, SaysTerminated, AnswersTerminated, AnswersAudit}
@@ -17,17 +16,15 @@ use Rattle.virtiofs_mapcheck.specs.AuditsAnswer.{AnswersApart}
 use Rattle.virtiofs_mapcheck.specs.AuditsParts.{audit_text}
 use Rattle.virtiofs_mapcheck.specs.Outcome.{AreOne}
 use Rattle.virtiofs_mapcheck.specs.RulesAnswer.{WithRules}
-use Rattle.virtiofs_output.specs.Written.{written, line}
+use Rattle.virtiofs_output.specs.Written.{line}
 use Rattle.virtiofs_output.specs.declared.outcome.Answered.{Answered}
 use Rattle.virtiofs_output.specs.declared.outcome.Answered.TheVariants.{Given}
-use Rattle.virtiofs_mapcheck.proofs.OutcomeLemmas.{IsGiven-one}
 use Rattle.virtiofs_mapcheck.proofs.RulesAnswerLemmas.{WithRules-one}
 
 -- what an audit answers is what is said of it
 pub SaysLeast-audit : {A : Type 0} (bad : List ℕ → Type 0) (audit : Audit A) (text : List ℕ) → AnswersLeast bad audit
     → text ≡ line (audit_text audit) → SaysLeast bad Given text
-SaysLeast-audit bad Yes text none is = inl (none, (refl, is))
-SaysLeast-audit bad (No name) text least is = inr (name, least, (refl, is))
+SaysLeast-audit bad audit text none is = search rules
 
 -- the rules of the first text were read, and what they say beside the second was answered
 pub SaysApart : {A E : Type 0} (r : Result (Answered × String A) E) (first second : List ℕ) (rules : List MappingRule)
@@ -35,17 +32,12 @@ pub SaysApart : {A E : Type 0} (r : Result (Answered × String A) E) (first seco
     → IfOk r
     (λ p. WithRules (codes "second: ") second (λ others. SaysLeast (IsSeen rules others)) p.0 (string_bytes p.1))
     → IfOk r (λ p. AnswersApart first second p.0 (string_bytes p.1))
-SaysApart (Ok p) first second rules says answered = inl (rules, says, answered)
-SaysApart (Err e) first second rules says answered = tt
+SaysApart r first second rules says answered = grind arith
 
 -- ---- one least name
 
 neither_less : (o p : Ordering) → o ≡ ordering_reverse p → o ≢ Less → p ≢ Less → ◌≡◌ {A = Ordering} o Equal
-neither_less Less p flipped not_less not_more = absurd (not_less refl)
-neither_less Equal p flipped not_less not_more = refl
-neither_less Greater Less flipped not_less not_more = absurd (not_more refl)
-neither_less Greater Equal flipped not_less not_more = cc
-neither_less Greater Greater flipped not_less not_more = cc
+neither_less o p flipped not_less not_more = search rules
 
 -- names of which none comes before the other are one
 same_place : (name other : List ℕ) → ¬ IsBefore name other → ¬ IsBefore other name → name ≡ other
@@ -56,43 +48,25 @@ same_place name other not_before not_after =
     (bytes_eq-Decides name other).0 (sym (is_eq-slice_cmp name other) ∙ ap is_eq equal)
 
 IsLeast-one : (bad : List ℕ → Type 0) (name other : List ℕ) → IsLeast bad name → IsLeast bad other → name ≡ other
-IsLeast-one bad name other first second =
-    same_place name other (second.none_before name first.is_bad) (first.none_before other second.is_bad)
+IsLeast-one bad name other first second = search (rules, same_place)
 
 SaysLeast-one : (bad : List ℕ → Type 0) → AreOne (SaysLeast bad)
-SaysLeast-one bad answered other text another (inl (none, one)) (inl (never, two)) =
-    IsGiven-one (codes "yes") answered other text another one two
-SaysLeast-one bad answered other text another (inl (none, one)) (inr (name, least, two)) =
-    absurd (none name least.is_bad)
-SaysLeast-one bad answered other text another (inr (name, least, one)) (inl (none, two)) =
-    absurd (none name least.is_bad)
-SaysLeast-one bad answered other text another (inr (name, least, one)) (inr (found, such, two)) = (
-  one.0 ∙ sym two.0,
-  one.1
-      ∙ ap (λ (n : List ℕ). line (codes "no " ++ written n)) (IsLeast-one bad name found least such) ∙ sym two.1,
-)
+SaysLeast-one bad answered other text another (inl (none, one)) (inl (never, two)) = search rules
+SaysLeast-one bad answered other text another (inl (none, one)) (inr (name, least, two)) = search rules
+SaysLeast-one bad answered other text another (inr (name, least, one)) (inl (none, two)) = search rules
+SaysLeast-one bad answered other text another (inr (name, least, one)) (inr (found, such, two)) =
+    let same = IsLeast-one bad name found least such in (cc, cc)
 
 SaysTerminated-one : (rules : List MappingRule) → AreOne (SaysTerminated rules)
-SaysTerminated-one rules answered other text another (inl (holds, one)) (inl (also, two)) =
-    IsGiven-one (codes "yes") answered other text another one two
-SaysTerminated-one rules answered other text another (inl (holds, one)) (inr (fails, two)) = absurd (fails holds)
-SaysTerminated-one rules answered other text another (inr (fails, one)) (inl (holds, two)) = absurd (fails holds)
-SaysTerminated-one rules answered other text another (inr (fails, one)) (inr (also, two)) =
-    IsGiven-one (codes "no") answered other text another one two
+SaysTerminated-one rules answered other text another h5 h6 = grind arith
 
 -- ---- one answer
 
 pub AnswersTerminated-one : (said : List ℕ) → AreOne (AnswersTerminated said)
-AnswersTerminated-one said = WithRules-one [] said SaysTerminated SaysTerminated-one
+AnswersTerminated-one said = search (rules, WithRules-one, SaysTerminated-one)
 
 pub AnswersAudit-one : (said : List ℕ) → AreOne (AnswersAudit said)
-AnswersAudit-one said =
-    WithRules-one [] said (λ (rules : List MappingRule). SaysLeast (IsLost rules))
-    (λ rules. SaysLeast-one (IsLost rules))
+AnswersAudit-one said = search (rules, WithRules-one, SaysLeast-one)
 
 pub AnswersApart-one : (first second : List ℕ) → AreOne (AnswersApart first second)
-AnswersApart-one first second =
-    WithRules-one (codes "first: ") first
-    (λ (rules : List MappingRule). WithRules (codes "second: ") second (λ others. SaysLeast (IsSeen rules others)))
-    (λ rules. WithRules-one (codes "second: ") second (λ (others : List MappingRule). SaysLeast (IsSeen rules others))
-    (λ others. SaysLeast-one (IsSeen rules others)))
+AnswersApart-one first second = search (rules, WithRules-one, SaysLeast-one)

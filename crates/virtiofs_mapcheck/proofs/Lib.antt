@@ -3,9 +3,7 @@ mod AttributesAnswerLemmas
 mod AuditsAnswerLemmas
 mod FormLemmas
 mod IdsAnswerLemmas
-mod KindLemmas
 mod NamespaceAnswerLemmas
-mod OutcomeLemmas
 mod QueryLineLemmas
 mod RulesAnswerLemmas
 mod WordsLemmas

@@ -1,6 +1,6 @@
 -- The lines of queries.
-use Rattle.std.proofs.Common.{◌≡◌, ℕ, ◌+◌, ◌<◌, List, [], ◌∷◌, ◌++◌, length, take, get_or, sym, ap, ◌∙◌, append_assoc}
-use Rattle.std.proofs.Common.{Result, Ok, Err, OnOk}
+use Rattle.std.proofs.Common.{rules, ◌≡◌, ℕ, ◌+◌, ◌<◌, List, [], ◌∷◌, ◌++◌, length, take, get_or, sym, ap, ◌∙◌}
+use Rattle.std.proofs.Common.{append_assoc, Result, OnOk}
 use Rattle.std.specs.List.{AllZip, concat}
 use Rattle.std.proofs.lemmas.List.{take_more, append-nil}
 use Rattle.virtiofs_map.proofs.ForCallers.{AllZip-push}
@@ -17,16 +17,12 @@ pub lines_more : (specs : List IdMap) (queries : List Query) (i : ℕ) (d : Quer
     (line text new : List ℕ) → i < length queries → AllZip (IsLine specs) (take i queries) lines
     → IsLine specs (get_or queries i d) line → text ≡ concat lines → new ≡ text ++ line
     → (all : List (List ℕ)) × AllZip (IsLine specs) (take (i + 1) queries) all × (new ≡ concat all)
-lines_more specs queries i d lines line text new below answered is whole same = (
-  lines ++ line ∷ [],
-  rw (take_more queries i d below)
-      (AllZip-push (IsLine specs) (take i queries) lines (get_or queries i d) line answered is),
-  same ∙ ap (λ (xs : List ℕ). xs ++ line) whole ∙ sym (concat-push lines line),
-)
+lines_more specs queries i d lines line text new below answered is whole same =
+    let more = AllZip-push (IsLine specs) (take i queries) lines (get_or queries i d) line answered is in
+    (lines ++ line ∷ [], rw (take_more queries i d below) more, cc (concat-push lines line))
 
 -- a line that was written is the line of its query
 pub line_written : {T E : Type 0} (specs : List IdMap) (query : Query) (r : Result T E) (old new text : List ℕ)
     → IsLine specs query text → OnOk r (new ≡ old ++ text)
     → OnOk r ((x : List ℕ) × IsLine specs query x × (new ≡ old ++ x))
-line_written specs query (Ok x) old new text is wrote = (text, is, wrote)
-line_written specs query (Err e) old new text is wrote = tt
+line_written specs query r old new text is wrote = search rules

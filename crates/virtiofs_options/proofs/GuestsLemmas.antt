@@ -6,7 +6,6 @@ use Rattle.virtiofs_options.specs.Guests.{GuestsThen, IsGuest, Told}
 use Rattle.virtiofs_options.specs.Parts.{WrongOnly}
 use Rattle.virtiofs_options.specs.declared.fault.Fault.{Fault}
 use Rattle.virtiofs_options.specs.declared.fault.ReadError.{ReadError}
-use Rattle.virtiofs_options.specs.declared.fault.ReadError.TheVariants.{OutOfMemory, Wrong}
 use Rattle.virtiofs_options.specs.declared.guest.Guest.{Guest}
 use Rattle.virtiofs_options.specs.declared.options.Options.{Options}
 
@@ -49,10 +48,8 @@ GuestsThen-more options n first (one ∷ guests) (Some words) told left next num
 -- what is wrong, in other words
 pub WrongOnly-map : (P Q : Fault → Type 0) (error : ReadError) → ((fault : Fault) → P fault → Q fault)
     → WrongOnly P error → WrongOnly Q error
-WrongOnly-map P Q OutOfMemory leads wrong = tt
-WrongOnly-map P Q (Wrong fault) leads wrong = leads fault wrong
+WrongOnly-map x0 x1 x2 leads wrong = grind arith
 
 -- there is nothing where there is no element
 pub none-left : {A : Type 0} (o : Option A) → ((x : A) → o ≡ Some x → ⊥) → o ≡ None
-none-left None lacks = refl
-none-left (Some x) lacks = absurd (lacks x refl)
+none-left x0 lacks = grind arith

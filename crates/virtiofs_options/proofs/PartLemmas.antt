@@ -1,5 +1,6 @@
 -- Parts of a command line, one after another.
-use Rattle.std.proofs.Common.{◌≡◌, ◌-◌, ◌==◌, List, [], ◌∷◌, ◌++◌, ℕ, refl, subst, sym, length, take, drop, get_or, true, false}
+use Rattle.std.proofs.Common.{arith}
+use Rattle.std.proofs.Common.{◌≡◌, ◌-◌, ◌==◌, List, [], ◌∷◌, ◌++◌, ℕ, subst, sym, length, take, drop, get_or, false}
 use Rattle.std.proofs.lemmas.List.{take_rest}
 use Rattle.virtiofs_options.specs.Parts.{Begins, PartsThen, read_after}
 use Rattle.virtiofs_options.specs.declared.command.Part.{Part}
@@ -10,14 +11,10 @@ use Rattle.virtiofs_options.specs.declared.word.Word.{Word}
 pub PartsThen-more : (options : Options) (words : List Word) (parts : List Part)
     (left : List Word) (part : Part) (rest : List Word) → PartsThen options words parts left
     → Begins options left part rest → PartsThen options words (parts ++ part ∷ []) (read_after part rest)
-PartsThen-more options words [] left part rest so_far begins =
-    (rest, subst (λ (it : List Word). Begins options it part rest) (sym so_far) begins, refl)
+PartsThen-more options words [] left part rest so_far begins = grind arith
 PartsThen-more options words (first ∷ parts) left part rest so_far begins =
     let (after, here, there) = so_far in
     (after, here, PartsThen-more options (read_after first after) parts left part rest there begins)
-
-some_left : false ≡ true → ⊥
-some_left same = cc
 
 -- the same, where the words left are read by a loop
 pub PartsThen-next : (options : Options) (words : List Word) (parts : List Part)
@@ -27,7 +24,7 @@ pub PartsThen-next : (options : Options) (words : List Word) (parts : List Part)
     (drop count (get_or left 0 d ∷ take (length left - 1) (drop 1 left)))
     → next ≡ read_after part (take (length left - count) (drop count left))
     → PartsThen options words (parts ++ part ∷ []) next
-PartsThen-next options words parts [] part count d next so_far some begins is = absurd (some_left some)
+PartsThen-next options words parts [] part count d next so_far some begins is = grind arith
 PartsThen-next options words parts (word ∷ after) part count d next so_far some begins is =
     let tail = λ (it : List Word). Begins options (word ∷ it) part (drop count (word ∷ it)) in
     let here : Begins options (word ∷ after) part (drop count (word ∷ after)) =

@@ -1,5 +1,5 @@
 -- What the program's words come to.
-use Rattle.std.proofs.Common.{◌≡◌, ℕ, List, Result, Ok, Err, IfOk, IfErr, Bor, inr, subst}
+use Rattle.std.proofs.Common.{◌≡◌, ℕ, List, Result, Ok, Err, IfErr, Bor, inr, subst}
 use Rattle.std.specs.Global.{Global}
 use Rattle.virtiofs_options.proofs.GuestsLemmas.{WrongOnly-map}
 use Rattle.virtiofs_options.specs.Parts.{WrongOnly}
@@ -14,22 +14,12 @@ use Rattle.virtiofs_options.specs.declared.words.Front.TheVariants.{Audit}
 use Rattle.virtiofs_options.specs.declared.words.Words.{Words}
 use Rattle.virtiofs_options.specs.declared.words.Words.TheVariants as words_are
 
-audit-right : (own of_daemon : Options) (words : List (Bor (List ℕ))) (front : List Word) (asked : Asked) (values : Values)
+pub audit-right : (own of_daemon : Options) (words : List (Bor (List ℕ))) (front : List Word) (asked : Asked) (values : Values)
     (first : Guest Global) (it : Words) → AreFrontWords of_daemon words front → IsFront own front (Audit asked values first)
     → IsAudit of_daemon asked values first (rest_of words) it → AreWords own of_daemon words it
 audit-right own of_daemon words front asked values first (words_are.Tell telling) are is audit = absurd audit
 audit-right own of_daemon words front asked values first (words_are.Audit asked_for all read) are is (same, these, guests) =
     (front, asked, values, first, are, is, (same, these, guests))
-
--- an audit of what stands after the first `--`
-pub audit-words : (own of_daemon : Options) (words : List (Bor (List ℕ))) (front : List Word) (rest : List (Bor (List ℕ))) (asked : Asked) (values : Values)
-    (first : Guest Global) (r : Result Words ReadError) → AreFrontWords of_daemon words front
-    → IsFront own front (Audit asked values first) → rest ≡ rest_of words
-    → IfOk r (IsAudit of_daemon asked values first rest) → IfOk r (AreWords own of_daemon words)
-audit-words own of_daemon words front rest asked values first (Ok it) are is rest_is audit =
-    audit-right own of_daemon words front asked values first it are is
-    (subst (λ (l : List (Bor (List ℕ))). IsAudit of_daemon asked values first l it) rest_is audit)
-audit-words own of_daemon words front rest asked values first (Err error) are is rest_is audit = tt
 
 -- what is wrong with what stands after the first `--`
 pub audit-wrong : (own of_daemon : Options) (words : List (Bor (List ℕ))) (front : List Word) (rest : List (Bor (List ℕ))) (asked : Asked) (values : Values)

@@ -1,24 +1,12 @@
 -- Searches by loops over a slice.
-use Rattle.std.proofs.Common.{◌≡◌, ◌<◌, ◌+◌, ◌||◌, ℕ, List, [], ◌∷◌, Bool, true, false, if◌then◌else◌, Some, None, is_some, refl, find, take, drop, get_or, length, sym, ap, ◌∙◌}
+use Rattle.std.proofs.Common.{arith}
+use Rattle.std.proofs.Common.{◌≡◌, ◌<◌, ◌+◌, ℕ, List, [], ◌∷◌, Bool, true, false, if◌then◌else◌, Some, None, is_some, refl, find, take, drop, get_or, length, sym, ap, ◌∙◌}
 use Rattle.std.proofs.lemmas.List.{take_more, take-append-drop}
-use Rattle.std.proofs.lemmas.List.Folds.{find-append, list_any-append, list_any_more}
+use Rattle.std.proofs.lemmas.List.Folds.{find-append}
 use Rattle.std.specs.List.{list_any}
 use Rattle.std.specs.Option.{option_or}
 
 module _ {X : Type 0} (p : X → Bool) (xs : List X) (i : ℕ) (d : X) where
-  -- no element so far passes, nor does the next
-  pub any-next : i < length xs → list_any p (take i xs) ≡ false → p (get_or xs i d) ≡ false
-      → list_any p (take (i + 1) xs) ≡ false
-  any-next below before fails =
-      list_any_more p xs i d below ∙ ap (λ b. b || p (get_or xs i d)) before ∙ fails
-
-  -- no element so far passes, and the next does
-  pub any-here : i < length xs → list_any p (take i xs) ≡ false → p (get_or xs i d) ≡ true → list_any p xs ≡ true
-  any-here below before passes =
-      ap (list_any p) (sym (take-append-drop (i + 1) xs)) ∙ list_any-append p (take (i + 1) xs) (drop (i + 1) xs)
-      ∙ ap (λ b. b || list_any p (drop (i + 1) xs))
-      (list_any_more p xs i d below ∙ ap (λ b. b || p (get_or xs i d)) before ∙ passes)
-
   find-more : i < length xs → find p (take i xs) ≡ None
       → find p (take (i + 1) xs) ≡ (if p (get_or xs i d) then Some (get_or xs i d) else None)
   find-more below before =
@@ -27,8 +15,7 @@ module _ {X : Type 0} (p : X → Bool) (xs : List X) (i : ℕ) (d : X) where
 
   pub find-next : i < length xs → find p (take i xs) ≡ None → p (get_or xs i d) ≡ false
       → find p (take (i + 1) xs) ≡ None
-  find-next below before fails =
-      find-more below before ∙ ap (λ b. if b then Some (get_or xs i d) else None) fails
+  find-next below before fails = grind (arith, find-more)
 
   pub find-here : i < length xs → find p (take i xs) ≡ None → p (get_or xs i d) ≡ true
       → find p xs ≡ Some (get_or xs i d)
@@ -37,12 +24,7 @@ module _ {X : Type 0} (p : X → Bool) (xs : List X) (i : ℕ) (d : X) where
       ∙ ap (λ o. option_or o (find p (drop (i + 1) xs)))
       (find-more below before ∙ ap (λ b. if b then Some (get_or xs i d) else None) passes)
 
-found-if : {X : Type 0} (p : X → Bool) (x : X) (xs : List X) (b : Bool) → list_any p xs ≡ is_some (find p xs)
-    → (b || list_any p xs) ≡ is_some (if b then Some x else find p xs)
-found-if p x xs true rest = refl
-found-if p x xs false rest = rest
-
 -- an element passes if one is found
 pub any-find : {X : Type 0} (p : X → Bool) (xs : List X) → list_any p xs ≡ is_some (find p xs)
 any-find p [] = refl
-any-find p (x ∷ xs) = found-if p x xs (p x) (any-find p xs)
+any-find p (x ∷ xs) = grind (arith, any-find p xs)

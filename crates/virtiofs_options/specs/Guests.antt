@@ -7,7 +7,7 @@ use Rattle.virtiofs_options.specs.Clusters.{plain, split_words}
 use Rattle.virtiofs_options.specs.GuestOptions.{HasNoOption, TakesIn, has_any}
 use Rattle.virtiofs_options.specs.Lines.{beginning, first_daemon, line_of, after_line}
 use Rattle.virtiofs_options.specs.Parts.{AreParts, HasFault}
-use Rattle.virtiofs_options.specs.Starters.{starter_of}
+use Rattle.virtiofs_options.specs.Starters.{IsStarter}
 use Rattle.virtiofs_options.specs.Unknown.{AreRight, IsPartsFault, told, unknown_of}
 use Rattle.virtiofs_options.specs.Whole.{is_line}
 use Rattle.virtiofs_options.specs.declared.fault.Fault.{Fault}
@@ -67,7 +67,7 @@ abbrev pub IsGuest : {A : Type 0} → Options → ℕ → Guest A → List (Bor 
 IsGuest options number first words guest told left =
     (start : ℕ) × (start_of options (has_any first) words ≡ Some start)
     × IsLine options number first (line_of (drop start words)) guest told
-    × (guest.starter ≡ starter_of options (take start words))
+    × IsStarter options (take start words) guest.starter
     × (left ≡ after_line (drop start words))
 
 -- one guest more, which words begin with

@@ -6,7 +6,7 @@ ghost use Rattle.virtiofs_options.specs.GuestOptions.{Adds, HasNoOption, TakesIn
 use crate::command::Part;
 use crate::older::{Older, read_older};
 use crate::options::{Known, Options, Sets, Switch};
-use crate::starter::Starter;
+use crate::starter::{ROOT, Starter};
 use std::alloc::{AllocError, Allocator};
 
 /// How a daemon is kept apart from the host.
@@ -59,7 +59,7 @@ pub struct Guest<'a, A: Allocator> {
     /// How the daemon is kept apart from the host, if that is said; `kept_apart` reads it.
     pub sandbox: Option<&'a str>,
     /// Who starts the daemon, by the words before the daemon's.
-    pub starter: Starter,
+    pub starter: Starter<'a>,
 }
 
 impl<A: Allocator> Guest<'_, A> {
@@ -88,7 +88,7 @@ impl<'a, A: Allocator + Copy> Guest<'a, A> {
             xattr: false,
             security_label: false,
             sandbox: None,
-            starter: Starter::ByRoot,
+            starter: ROOT,
         }
     }
 
@@ -188,10 +188,10 @@ impl<'a, A: Allocator + Copy> Guest<'a, A> {
         &mut self,
         options: Options,
         parts: &[Part<'a>],
-        starter: Starter,
+        starter: Starter<'a>,
     ) -> Result<(), AllocError>
         ensures takes { OnOk result (TakesIn options self.old self.new parts.now) }
-        ensures starter { OnOk result (self.new.starter ≡ starter) }
+        ensures starter { OnOk result (self.new.starter ≡ starter.entry) }
     {
         for part in parts {
             self.take_part(*part)?;

@@ -10,7 +10,7 @@ use crate::guest::Guest;
 use crate::line::{after_line, beginning, first_daemon, line_of, tail_of};
 use crate::options::Options;
 use crate::parts::read_parts;
-use crate::starter::{Starter, starter_of};
+use crate::starter::{ROOT, Starter, starter_of};
 use crate::strays::check_line;
 use crate::unknown::{UnknownWord, push_unknown};
 use crate::whole::is_line;
@@ -56,14 +56,14 @@ fn line_guest<'a>(
     options: Options,
     number: usize,
     line: &[&'a str],
-    starter: Starter,
+    starter: Starter<'a>,
     first: Guest<'a, Global>,
     unknown: &mut Vec<UnknownWord<'a>, Global>,
 ) -> Result<Guest<'a, Global>, ReadError<'a>>
     ensures read { IfOk result (λ guest. (here : Told)
         × IsLine options number first.entry line.now guest here
         × (map told unknown.new.items ≡ map told unknown.old.items ++ here)) }
-    ensures starter { IfOk result (λ guest. guest.starter ≡ starter) }
+    ensures starter { IfOk result (λ guest. guest.starter ≡ starter.entry) }
     ensures refused { IfErr result (WrongOnly (IsLineFault options line.now)) }
 {
     let words = split_words(alloc, options, line)?;
@@ -80,11 +80,11 @@ fn read_line<'a>(
     alloc: Global,
     options: Options,
     line: &[&'a str],
-    starter: Starter,
+    starter: Starter<'a>,
     first: Guest<'a, Global>,
     read: &mut Guests<'a>,
 ) -> Result<(), ReadError<'a>>
-    ensures read { OnOk result (AddsLine options starter first.entry line.now read.old read.new) }
+    ensures read { OnOk result (AddsLine options starter.entry first.entry line.now read.old read.new) }
     ensures refused { IfErr result (WrongOnly (IsLineFault options line.now)) }
 {
     let number = read.guests.len() + 1;
@@ -161,15 +161,7 @@ pub fn read_process<'a>(
     let mut unknown = Vec::new(alloc);
     let first = Guest::new(alloc);
     let line = line_of(tail_of(words, start));
-    match line_guest(
-        alloc,
-        options,
-        number,
-        line,
-        Starter::ByRoot,
-        first,
-        &mut unknown,
-    ) {
+    match line_guest(alloc, options, number, line, ROOT, first, &mut unknown) {
         Ok(guest) => Ok(Process::OfGuest { guest, unknown }),
         Err(error) => Err(error),
     }

@@ -24,7 +24,7 @@ fn flag<'a>(alloc: Global, name: &'a str, help: &'a str) -> Arg<'a> {
 /// The program, with no options yet.
 fn program<'a>(alloc: Global) -> Command<'a> {
     Command::new(alloc, "virtiofs_mapaudit")
-        .version("3.1.0")
+        .version("3.2.0")
         .about(
             "Says what the options of a virtiofsd do to ids and names, and what is wrong with them.",
         )

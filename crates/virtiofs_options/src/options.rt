@@ -1,7 +1,5 @@
 //! The options that the program and the daemon know: a table of each, which all else reads.
 
-use crate::starter::Starter;
-
 /// Whether an option has a value.
 #[derive(Clone, Copy)]
 pub(crate) enum Takes {
@@ -93,16 +91,31 @@ pub(crate) struct Known {
     pub(crate) help: &'static str,
 }
 
-/// A program that starts others, and what a daemon is then taken for.
+/// What words say that start another program.
+#[derive(Clone, Copy)]
+pub(crate) enum Says {
+    /// Which user starts it: behind the option, or behind the program's word.
+    User,
+    /// That root does.
+    Root,
+    /// That another user does, unless root is named, but not which one.
+    Another,
+    /// Which group starts it: not the user's own, so that the user alone does not tell.
+    Group,
+    /// That it runs in a user namespace.
+    Namespace,
+}
+
+/// A program that starts others, and what its words say.
 #[derive(Clone, Copy)]
 pub(crate) struct Start {
     /// How its word ends.
     pub(crate) program: &'static str,
-    /// How the word begins that has it do so, and behind which it takes the user; empty where the user is a
-    /// word of its own.
+    /// How the word begins that has it do so, and behind which it takes the user; empty where none is needed,
+    /// and the user is a word of its own.
     pub(crate) option: &'static str,
-    /// Who then starts the daemon; `ByOther` but where root is named.
-    pub(crate) starter: Starter,
+    /// What these words say.
+    pub(crate) says: Says,
 }
 
 use Sets::{
@@ -186,7 +199,7 @@ const OPTIONS: [Known; 24] = table! {
     "--pid": Value, Other, Any, "PID", "Audit this process of a daemon, as a further guest";
     "--running": Nothing, Other, Any, "",
         "Audit each virtiofsd that runs here; those of one directory together";
-    "--run-as": Value, Other, Any, "UID[:GID]",
+    "--run-as": Value, Other, Any, "USER[:GID]",
         "The user who starts the daemon; more than once: of each command line in turn";
     "--subuid": Value, Other, Any, "FILE", "Read FILE in place of /etc/subuid";
     "--subgid": Value, Other, Any, "FILE", "Read FILE in place of /etc/subgid";
@@ -300,44 +313,66 @@ const OLDER_OPTIONS: [Known; 23] = table! {
 
 /// A table, with a row for each program and option.
 macro_rules! starts {
-    ($($program:literal $option:literal $starter:ident,)*) => {
-        [$(Start { program: $program, option: $option, starter: Starter::$starter }),*]
+    ($($program:literal $option:literal $says:ident,)*) => {
+        [$(Start { program: $program, option: $option, says: Says::$says }),*]
     };
 }
 
 /// The programs that start others. Of rows that speak of the same words the first counts.
-const STARTERS: [Start; 30] = starts! {
-    "podman" "unshare" InNamespace,
-    "buildah" "unshare" InNamespace,
-    "lxc-usernsexec" "" InNamespace,
-    "rootlesskit" "" InNamespace,
-    "bwrap" "--unshare-user" InNamespace,
-    "bwrap" "--unshare-all" InNamespace,
-    "unshare" "--user" InNamespace,
-    "unshare" "--map-" InNamespace,
-    "unshare" "-U" InNamespace,
-    "unshare" "-r" InNamespace,
-    "unshare" "-mU" InNamespace,
-    "unshare" "-mr" InNamespace,
-    "sudo" "-u" ByOther,
-    "sudo" "--user" ByOther,
-    "sudo" "-nu" ByOther,
-    "sudo" "-Hu" ByOther,
-    "sudo" "-iu" ByOther,
-    "doas" "-u" ByOther,
-    "su" "" ByOther,
-    "runuser" "-u" ByOther,
-    "runuser" "--user" ByOther,
-    "runuser" "" ByOther,
-    "setpriv" "--reuid" ByOther,
-    "setpriv" "--euid" ByOther,
-    "chpst" "-u" ByOther,
-    "setuidgid" "" ByOther,
-    "gosu" "" ByOther,
-    "su-exec" "" ByOther,
-    "systemd-run" "--user" ByOther,
-    "systemd-run" "--uid" ByOther,
+const STARTERS: [Start; 52] = starts! {
+    "podman" "unshare" Namespace,
+    "podman" "--userns" Namespace,
+    "buildah" "unshare" Namespace,
+    "lxc-usernsexec" "" Namespace,
+    "rootlesskit" "" Namespace,
+    "unshare" "--user" Namespace,
+    "unshare" "--map-" Namespace,
+    "unshare" "-U" Namespace,
+    "unshare" "-r" Namespace,
+    "unshare" "-mU" Namespace,
+    "unshare" "-mr" Namespace,
+    "bwrap" "--unshare-user" Another,
+    "bwrap" "--unshare-all" Another,
+    "sudo" "-g" Group,
+    "sudo" "--group" Group,
+    "sudo" "-u" User,
+    "sudo" "--user" User,
+    "sudo" "-nu" User,
+    "sudo" "-Hu" User,
+    "sudo" "-iu" User,
+    "doas" "-u" User,
+    "su" "-g" Group,
+    "su" "" User,
+    "runuser" "-g" Group,
+    "runuser" "--group" Group,
+    "runuser" "-u" User,
+    "runuser" "--user" User,
+    "runuser" "" User,
+    "setpriv" "--reuid" Another,
+    "setpriv" "--euid" Another,
+    "chpst" "-u" User,
+    "setuidgid" "" User,
+    "gosu" "" User,
+    "su-exec" "" User,
+    "systemd-run" "--user" Another,
+    "systemd-run" "--gid" Group,
+    "systemd-run" "--uid" User,
+    "systemd-run" "Group=" Group,
+    "systemd-run" "User=" User,
+    "systemd-run" "--property=User=" User,
+    "systemd-run" "-pUser=" User,
+    "systemd-run" "DynamicUser=" Another,
+    "pkexec" "--user" User,
+    "run0" "--user" User,
+    "start-stop-daemon" "--chuid" User,
+    "start-stop-daemon" "-c" User,
+    "chroot" "--userspec" User,
+    "sudo" "" Root,
+    "doas" "" Root,
+    "pkexec" "" Root,
+    "run0" "" Root,
+    "systemd-run" "" Root,
 };
 
-/// How root is named behind an option, or alone.
-const ROOTS: [&str; 8] = ["root", "0", "#0", "=root", "=0", "=#0", "root:root", "0:0"];
+/// How root is named.
+const ROOTS: [&str; 4] = ["root", "0", "root:root", "0:0"];

@@ -1,27 +1,36 @@
 //! Who starts the daemon, by the words before the daemon's.
-ghost use Rattle.std.specs.Prelude.{◌≡◌, ◌<◌, length, IfSome};
-ghost use Rattle.virtiofs_options.specs.Starters.{is_root, is_mark, mark_of, is_name, is_root_next, names_root, has_program, speaks, starter_by, row_of, starter_of};
+ghost use Rattle.std.specs.Prelude.{◌≡◌, ◌<◌, length, option_map, IfSome};
+ghost use Rattle.virtiofs_options.specs.GuestOptions.{text_in};
+ghost use Rattle.virtiofs_options.specs.Starters.{bare, has_program, is_mark, is_name, is_root, mark_of, names_root, next_name, rest_of, row_of, speaks, user_behind, user_by, by_of, named_by, IsStarter};
 
 use crate::cluster::stripped;
-use crate::options::{Options, Start};
+use crate::options::{Options, Says, Start};
 
-/// Who starts a daemon, as far as words tell.
+/// Who starts a daemon.
 #[derive(Clone, Copy)]
-pub enum Starter {
-    /// Root.
-    ByRoot,
+pub enum By {
+    /// Root, or nobody of whom words tell.
+    Root,
     /// Another user.
-    ByOther,
+    Another,
     /// Whoever it is, in a user namespace that is set up for it.
     InNamespace,
 }
 
-/// Whether a text names root.
-fn is_root(options: Options, text: &str) -> bool
-    ensures { result ≡ is_root options text.now }
-{
-    options.roots.iter().any(|root| *root == text)
+/// Who starts a daemon, as far as words tell.
+#[derive(Clone, Copy)]
+pub struct Starter<'a> {
+    /// Who it is.
+    pub by: By,
+    /// The name or the number of the user, if words tell it.
+    pub user: Option<&'a str>,
 }
+
+/// Root.
+pub(crate) const ROOT: Starter<'static> = Starter {
+    by: By::Root,
+    user: None,
+};
 
 /// Whether a user is named behind a word: behind the option, or, where the program takes none, behind the
 /// program's word.
@@ -43,36 +52,6 @@ fn mark_of(row: Start, words: &[&str]) -> Option<usize>
     words.iter().position(|word| is_mark(row, word))
 }
 
-/// Whether a word may be a name: it is neither an option nor a path.
-fn is_name(word: &str) -> bool
-    ensures { result ≡ is_name word.now }
-{
-    let word = word.as_bytes();
-    !word.starts_with(b"-") && !word.starts_with(b"/")
-}
-
-/// Whether the first of the words that may be a name names root; `otherwise` where none may.
-fn is_root_next(options: Options, otherwise: bool, words: &[&str]) -> bool
-    ensures { result ≡ is_root_next options otherwise words.now }
-{
-    match words.iter().find(|word| is_name(word)) {
-        Some(name) => is_root(options, name),
-        None => otherwise,
-    }
-}
-
-/// Whether root is named behind the first of the words: in the rest of it, or by the next name; without an
-/// option, also by no name.
-fn names_root(options: Options, option: &str, words: &[&str]) -> bool
-    ensures { result ≡ names_root options option.now words.now }
-{
-    let [mark, after @ ..] = words else {
-        return false;
-    };
-    let rest = stripped(option, mark).unwrap_or("");
-    is_root(options, rest) || is_root_next(options, option.is_empty(), after)
-}
-
 /// Whether one of the words is a program's.
 fn has_program(program: &str, words: &[&str]) -> bool
     ensures { result ≡ has_program program.now words.now }
@@ -89,19 +68,6 @@ fn speaks(row: Start, words: &[&str]) -> bool
     has_program(row.program, words) && mark_of(row, words).is_some()
 }
 
-/// Who starts a daemon by the words of a row: root too, where it is named.
-fn starter_by(options: Options, row: Start, words: &[&str]) -> Starter
-    ensures { result ≡ starter_by options row words.now }
-{
-    let Some(place) = mark_of(row, words) else {
-        return row.starter;
-    };
-    match row.starter {
-        Starter::ByOther if names_root(options, row.option, &words[place..]) => Starter::ByRoot,
-        starter => starter,
-    }
-}
-
 /// The first row that speaks of words.
 fn row_of(options: Options, words: &[&str]) -> Option<Start>
     ensures { result ≡ row_of options words.now }
@@ -113,12 +79,119 @@ fn row_of(options: Options, words: &[&str]) -> Option<Start>
         .copied()
 }
 
-/// Who starts the daemon before whose word these words stand: that row says it; where there is none, root.
-pub(crate) fn starter_of(options: Options, words: &[&str]) -> Starter
-    ensures { result ≡ starter_of options words.now }
+/// Whether a word may be a name: it is neither an option nor a path.
+fn is_name(word: &str) -> bool
+    ensures { result ≡ is_name word.now }
 {
-    match row_of(options, words) {
-        Some(row) => starter_by(options, row, words),
-        None => Starter::ByRoot,
+    let word = word.as_bytes();
+    !word.starts_with(b"-") && !word.starts_with(b"/")
+}
+
+/// A text without a `=`, and then without a `#`, with which it begins.
+fn bare(text: &str) -> &str
+    ensures { result.now ≡ bare text.now }
+{
+    let text = stripped("=", text).unwrap_or(text);
+    stripped("#", text).unwrap_or(text)
+}
+
+/// What stands in a word behind an option, if there is one.
+fn rest_of<'a>(option: &str, word: &'a str) -> &'a str
+    ensures { result.now ≡ rest_of option.now word.now }
+{
+    if option.is_empty() {
+        return "";
+    }
+    bare(stripped(option, word).unwrap_or(""))
+}
+
+/// The first of the words that may be a name.
+fn next_name<'a>(words: &[&'a str]) -> Option<&'a str>
+    ensures { option_map (λ it. it.now) result ≡ next_name words.now }
+{
+    match words.iter().find(|word| is_name(word)) {
+        Some(name) => Some(bare(name)),
+        None => None,
+    }
+}
+
+/// The user behind the first of the words: the rest of it, or else the next that may be a name.
+fn user_behind<'a>(option: &str, words: &[&'a str]) -> Option<&'a str>
+    ensures { option_map (λ it. it.now) result ≡ user_behind option.now words.now }
+{
+    let [mark, after @ ..] = words else {
+        return None;
+    };
+    let rest = rest_of(option, mark);
+    if rest.is_empty() {
+        return next_name(after);
+    }
+    Some(rest)
+}
+
+/// The user whom words name by a row.
+fn user_by<'a>(row: Start, words: &[&'a str]) -> Option<&'a str>
+    ensures { text_in result ≡ user_by row words.now }
+{
+    match mark_of(row, words) {
+        Some(place) => user_behind(row.option, &words[place..]),
+        None => None,
+    }
+}
+
+/// Whether a text names root.
+fn names_root(options: Options, text: &str) -> bool
+    ensures { result ≡ names_root options text.now }
+{
+    options.roots.iter().any(|root| *root == text)
+}
+
+/// Whether the user whom words name by a row is root. Who needs no option for another user is so where
+/// nobody is named.
+fn is_root(options: Options, row: Start, user: Option<&str>) -> bool
+    ensures { result ≡ is_root options row (text_in user.entry) }
+{
+    match user {
+        Some(user) => names_root(options, user),
+        None => row.option.is_empty(),
+    }
+}
+
+/// Who starts a daemon by what a row says, where root is named, or another user is.
+fn by_of(says: Says, is_root: bool) -> By
+    ensures { result ≡ by_of says is_root }
+{
+    match says {
+        Says::Namespace => By::InNamespace,
+        Says::Group => By::Another,
+        Says::Root => By::Root,
+        _ => { if is_root { By::Root } else { By::Another } }
+    }
+}
+
+/// The user, if words tell the name or the number.
+fn named_by<'a>(says: Says, user: Option<&'a str>) -> Option<&'a str>
+    ensures { text_in result ≡ named_by says (text_in user.entry) }
+{
+    match says {
+        Says::User => user,
+        Says::Root => Some("root"),
+        _ => None,
+    }
+}
+
+/// Who starts the daemon before whose word these words stand: the first row that speaks of them says it;
+/// where none does, root.
+pub(crate) fn starter_of<'a>(options: Options, words: &[&'a str]) -> Starter<'a>
+    ensures { IsStarter options words.now result }
+{
+    let Some(row) = row_of(options, words) else {
+        return ROOT;
+    };
+    let user = user_by(row, words);
+    let is_root = is_root(options, row, user);
+    Starter {
+        by: by_of(row.says, is_root),
+        user: named_by(row.says, user),
     }
 }

@@ -15,7 +15,7 @@ use crate::help::Telling;
 use crate::line::{first_daemon, first_end, line_of, tail_of};
 use crate::options::Options;
 use crate::parts::read_parts;
-use crate::starter::Starter;
+use crate::starter::ROOT;
 use crate::values::{Values, values_of};
 use crate::whole::is_line;
 use crate::word::Word;
@@ -46,7 +46,7 @@ fn read_front<'a>(
     let asked = asked_of(parts.as_slice())?;
     let values = values_of(alloc, parts.as_slice())?;
     let mut guest = Guest::new(alloc);
-    guest.take_parts(options, parts.as_slice(), Starter::ByRoot)?;
+    guest.take_parts(options, parts.as_slice(), ROOT)?;
     Ok(Front::Audit(asked, values, guest))
 }
 

@@ -1,8 +1,9 @@
 //! The user namespace that a daemon runs in: its ranges.
-ghost use Rattle.std.specs.Prelude.{◌≡◌, ◌↔◌, ◌+◌, ◌-◌, ◌<◌, ◌^◌, All, IfOk, IsTrue, find, option_map};
+ghost use Rattle.std.specs.Prelude.{◌≡◌, ◌↔◌, ◌+◌, ◌-◌, ◌++◌, ◌<◌, ◌^◌, All, IfOk, IsTrue, OnOk, find, option_map};
 ghost use Rattle.virtiofs_findings.specs.RangeParts.{AgreeAround};
-ghost use Rattle.virtiofs_findings.specs.Ranges.{own_of, is_alone, shown_of, is_host, but_host, set_up_ranges, ranges_of, has, outside_of, AreSame, Differ};
+ghost use Rattle.virtiofs_findings.specs.Ranges.{own_of, said_own, is_own, is_alone, shown_of, is_host, but_host, set_up_ranges, ranges_of_all, ranges_of, as_taken, taken, has, has_outside, some_has, some_has_outside, is_outside, if_some, below_overflow, above_overflow, but_overflow, acting_ranges, outside_of, AreSame, Differ};
 
+use crate::explain::ids::OVERFLOW_ID;
 use crate::ids::ranges::MOST_RANGES;
 use std::alloc::{AllocError, Allocator};
 use virtiofs_host::runner::Bounds;
@@ -15,6 +16,16 @@ pub(crate) fn own_of<A: Allocator>(bounds: Option<&Bounds<A>>) -> u32
     match bounds {
         Some(bounds) => bounds.own,
         None => 0,
+    }
+}
+
+/// The same, if it is said.
+pub(crate) fn said_own<A: Allocator>(bounds: Option<&Bounds<A>>) -> Option<u32>
+    ensures { result ≡ said_own (option_map (λ it. it.now) bounds.entry) }
+{
+    match bounds {
+        Some(bounds) => Some(bounds.own),
+        None => None,
     }
 }
 
@@ -102,16 +113,55 @@ fn set_up_ranges<A: Allocator>(
     Ok(ranges)
 }
 
-/// The ranges of the namespace that a daemon runs in: those that the kernel shows, but in that of the
-/// host, of who can act as one id alone, that id; or else those that it sets up.
-pub(crate) fn ranges_of<A: Allocator>(
+/// Whether a daemon runs as that id, as far as is said.
+fn is_own(own: Option<u32>, id: u32) -> bool
+    ensures { result ≡ is_own own id }
+{
+    match own {
+        Some(own) => own == id,
+        None => false,
+    }
+}
+
+/// A range as virtiofsd takes it, if it is the only one: of one with the id that the daemon runs as, a COUNT
+/// of 0 is one of 1.
+fn as_taken(own: Option<u32>, range: &UidMap) -> UidMap
+    ensures { result ≡ as_taken own range.now }
+{
+    let is_one = is_own(own, range.outside_uid) && range.count == 0;
+    UidMap {
+        inside_uid: range.inside_uid,
+        outside_uid: range.outside_uid,
+        count: if is_one { 1 } else { range.count },
+    }
+}
+
+/// The ranges of the options as virtiofsd takes them.
+pub(crate) fn taken<A: Allocator>(
+    alloc: A,
+    own: Option<u32>,
+    written: &[UidMap],
+) -> Result<Vec<UidMap, A>, AllocError>
+    ensures { IfOk result (λ ranges. ranges.items ≡ taken own written.now) }
+{
+    let [range] = written else {
+        return copied(alloc, written);
+    };
+    let mut ranges = Vec::new(alloc);
+    ranges.push(as_taken(own, range))?;
+    Ok(ranges)
+}
+
+/// Those that the kernel shows, but in the namespace of the host, of who can act as one id alone, that id;
+/// or else those that the daemon sets up.
+fn ranges_of_all<A: Allocator>(
     alloc: A,
     bounds: Option<&Bounds<A>>,
     sets_up: bool,
     written: &[UidMap],
 ) -> Result<Vec<UidMap, A>, AllocError>
     ensures { IfOk result (λ ranges. ranges.items
-        ≡ ranges_of (option_map (λ it. it.now) bounds.entry) sets_up written.now) }
+        ≡ ranges_of_all (option_map (λ it. it.now) bounds.entry) sets_up written.now) }
 {
     let own = own_of(bounds);
     match shown_of(bounds) {
@@ -121,11 +171,130 @@ pub(crate) fn ranges_of<A: Allocator>(
 }
 
 /// Whether a range has an id inside.
-fn has(range: &UidMap, id: u64) -> bool
+pub(crate) fn has(range: &UidMap, id: u64) -> bool
     ensures { result ≡ has range.now id }
 {
     let first = u64::from(range.inside_uid);
     first <= id && id < first + u64::from(range.count)
+}
+
+/// Whether a range has an id outside.
+fn has_outside(range: &UidMap, id: u64) -> bool
+    ensures { result ≡ has_outside range.now id }
+{
+    let first = u64::from(range.outside_uid);
+    first <= id && id < first + u64::from(range.count)
+}
+
+/// Whether one of the ranges has an id inside.
+fn some_has(ranges: &[UidMap], id: u64) -> bool
+    ensures { result ≡ some_has ranges.now id }
+{
+    ranges.iter().any(|range| has(range, id))
+}
+
+/// The same, outside.
+fn some_has_outside(ranges: &[UidMap], id: u64) -> bool
+    ensures { result ≡ some_has_outside ranges.now id }
+{
+    ranges.iter().any(|range| has_outside(range, id))
+}
+
+/// Whether a daemon is none of the ids of ranges, as far as is said: neither 0, which it becomes where it
+/// can, nor the id that it runs as. Linux then shows it its own id as 65534.
+fn is_outside(own: Option<u32>, ranges: &[UidMap]) -> bool
+    ensures { result ≡ is_outside own ranges.now }
+{
+    match own {
+        Some(own) => !some_has(ranges, 0) && !some_has_outside(ranges, u64::from(own)),
+        None => !some_has(ranges, 0),
+    }
+}
+
+/// Adds a range, if it has an id.
+fn push_if_some<A: Allocator>(ranges: &mut Vec<UidMap, A>, range: UidMap) -> Result<(), AllocError>
+    ensures { OnOk result (ranges.new.items ≡ ranges.old.items ++ if_some range) }
+{
+    if range.count == 0 {
+        return Ok(());
+    }
+    ranges.push(range)?;
+    Ok(())
+}
+
+/// What a range has below 65534, which it has.
+fn below_overflow(range: &UidMap) -> UidMap
+    requires { IsTrue (has range.now 65534) }
+    ensures { result ≡ below_overflow range.now }
+{
+    UidMap {
+        inside_uid: range.inside_uid,
+        outside_uid: range.outside_uid,
+        count: OVERFLOW_ID - range.inside_uid,
+    }
+}
+
+/// What it has above.
+fn above_overflow(range: &UidMap) -> UidMap
+    requires { IsTrue (has range.now 65534) }
+    ensures { result ≡ above_overflow range.now }
+{
+    let skipped = OVERFLOW_ID - range.inside_uid + 1;
+    UidMap {
+        inside_uid: OVERFLOW_ID + 1,
+        outside_uid: range.outside_uid.saturating_add(skipped),
+        count: range.count - skipped,
+    }
+}
+
+/// Adds a range without 65534. One of that id alone leaves a range, since a list of none means all ids of
+/// the host.
+fn push_but_overflow<A: Allocator>(
+    ranges: &mut Vec<UidMap, A>,
+    range: &UidMap,
+) -> Result<(), AllocError>
+    ensures { OnOk result (ranges.new.items ≡ ranges.old.items ++ but_overflow range.now) }
+{
+    if !has(range, u64::from(OVERFLOW_ID)) {
+        ranges.push(copy_of(range))?;
+        return Ok(());
+    }
+    ranges.push(below_overflow(range))?;
+    push_if_some(ranges, above_overflow(range))?;
+    Ok(())
+}
+
+/// The ranges by which a daemon can act as an id inside. Of one that is none of their
+/// ids they lack 65534: virtiofsd takes it for its own, and changes nothing for it.
+fn acting_ranges<A: Allocator>(
+    alloc: A,
+    own: Option<u32>,
+    ranges: Vec<UidMap, A>,
+) -> Result<Vec<UidMap, A>, AllocError>
+    ensures { IfOk result (λ all. all.items ≡ acting_ranges own ranges.items) }
+{
+    if !is_outside(own, ranges.as_slice()) {
+        return Ok(ranges);
+    }
+    let mut all = Vec::new(alloc);
+    for range in ranges.as_slice() {
+        push_but_overflow(&mut all, range)?;
+    }
+    Ok(all)
+}
+
+/// The ranges of the namespace that a daemon runs in.
+pub(crate) fn ranges_of<A: Allocator + Copy>(
+    alloc: A,
+    bounds: Option<&Bounds<A>>,
+    sets_up: bool,
+    written: &[UidMap],
+) -> Result<Vec<UidMap, A>, AllocError>
+    ensures { IfOk result (λ ranges. ranges.items
+        ≡ ranges_of (option_map (λ it. it.now) bounds.entry) sets_up written.now) }
+{
+    let all = ranges_of_all(alloc, bounds, sets_up, written)?;
+    acting_ranges(alloc, said_own(bounds), all)
 }
 
 /// The first of the ranges that has an id inside.

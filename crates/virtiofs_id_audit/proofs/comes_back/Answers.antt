@@ -4,8 +4,7 @@ use Rattle.virtiofs_id_audit.proofs.comes_back.Goals as goal
 
 pub returns-in-Some-clause-comes_back : goal.returns-in-Some-clause-comes_back
 returns-in-Some-clause-comes_back g c =
-    no_where_bad (IsAstray c.args.map.now) (ComesBack c.args.map.now) c.in-Some.n _ c.in-Some.ensures.is_bad
-    (ComesBack-none c.args.map.now)
+    no_where_bad (IsAstray c.args.map.now) (ComesBack c.args.map.now) _ _ c.in-Some.ensures.is_bad (ComesBack-none _)
 
 pub returns-in-None-clause-answer : goal.returns-in-None-clause-answer
 returns-in-None-clause-answer g c = ComesBack-none c.args.map.now c.in-None.ensures

@@ -1,6 +1,6 @@
 -- The spans that have an id of a whole.
 use Rattle.std.proofs.Common.{◌≡◌, ◌↔◌, inl, inr, ℕ, ◌+◌, ◌-◌, ◌<◌, ◌≤◌, true, false, leb, ltb, List, take, drop}
-use Rattle.std.proofs.Common.{length, get_or, sym, ◌∙◌, arith, rules}
+use Rattle.std.proofs.Common.{length, get_or, ◌∙◌, arith, rules}
 use Rattle.std.specs.List.{All}
 use Rattle.std.specs.List.Sorted.{IsPartitionPoint}
 use Rattle.std.proofs.lemmas.Bool.{cases_lt}
@@ -29,21 +29,12 @@ module _ (spans : List Span) (whole : Span) (from count : ℕ)
   met_at k d inside = search (rules, length-take, length-drop, get_or-take, get_or-drop)
 
   pub All-met : All (λ span. (whole.first ≤ span.last) × (span.first ≤ whole.last)) (take count (drop from spans))
-  All-met k d inside =
-      let (below, within, here) = met_at k d inside in
-      let rest = length-drop from spans in
-      let late : ltb (get_or spans (from + k) d).last whole.first ≡ false = ends.1 (from + k) d (omega arith) within in
-      let early' : leb (get_or (drop from spans) k d).first whole.last ≡ true =
-      begins.0 k d (omega arith) below in
-      let early : leb (get_or spans (from + k) d).first whole.last ≡ true = rw (get_or-drop from spans k d) at early' in
-      rw here (grind (arith, nat_tests), grind (arith, nat_tests))
+  All-met k d inside = search (rules, met_at, length-drop, ltb, leb, get_or-drop, nat_tests)
 
   pub Hold-met : (id : ℕ) → Has whole id → Hold (take count (drop from spans)) id ↔ Hold spans id
   Hold-met id in_whole = (to, back) where
     to : Hold (take count (drop from spans)) id → Hold spans id
-    to (span, (k, inside, here), has) =
-        let (below, within, at) = met_at k span inside in
-        (span, (from + k, within, sym at ∙ here), has)
+    to (span, (k, inside, here), has) = search (rules, met_at)
 
     back : Hold spans id → Hold (take count (drop from spans)) id
     back (span, (k, inside, here), has) =
@@ -58,20 +49,4 @@ module _ (spans : List Span) (whole : Span) (from count : ℕ)
               let place : from + (k - from) ≡ k = omega arith in
               let at : get_or (drop from spans) (k - from) span ≡ span =
               get_or-drop from spans (k - from) span ∙ (rw place here) in
-              elim (cases_lt (k - from) count) [
-                | inl under ↦ (
-                  span,
-                  (
-                    k - from,
-                    omega (arith, all, rest, inside),
-                    get_or-take count (drop from spans) (k - from) span under ∙ at,
-                  ),
-                  has,
-                )
-                | inr over ↦ absurd
-                    (let late : leb span.first whole.last ≡ false =
-                    rw at at (begins.1 (k - from) span over (omega (arith, rest, inside))) in
-                    let low : span.first ≤ id = has.0 in
-                    let high : id ≤ whole.last = in_whole.1 in
-                    grind (arith, nat_tests))
-              ]
+              search (rules, cases_lt, get_or-take)

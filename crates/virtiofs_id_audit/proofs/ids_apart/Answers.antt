@@ -7,8 +7,8 @@ use Rattle.virtiofs_id_audit.proofs.ids_apart.Goals as goal
 pub returns-in_default-clause-answer : goal.returns-in_default-clause-answer
 returns-in_default-clause-answer g c =
     let all = rw (c.deref.ensures.value, c.from.ensures) at c.in_ok-reached.ensures.again in
-    IsLeastIfAny-reached c.args.other.now c.in_ok-images.images.items c.in_ok-reached.reached.items
-    c.in_ok-images.ensures all c.args.map.now None (rw c.deref-2.ensures.value at c.in_default.ensures.least)
+    IsLeastIfAny-reached _ _ _ c.in_ok-images.ensures all _ None
+    (rw c.deref-2.ensures.value at c.in_default.ensures.least)
 
 pub returns-in_default-clause-apart : goal.returns-in_default-clause-apart
 returns-in_default-clause-apart g c =
@@ -18,8 +18,7 @@ pub returns-clause-answer : goal.returns-clause-answer
 returns-clause-answer g c =
     let all = rw (c.deref.ensures.value, c.from.ensures) at c.in_ok-reached.ensures.again in
     rw c.id_of.ensures
-    (IsLeastIfAny-reached c.args.other.now c.in_ok-images.images.items c.in_ok-reached.reached.items
-    c.in_ok-images.ensures all c.args.map.now (Some c.in-Some.n)
+    (IsLeastIfAny-reached _ _ _ c.in_ok-images.ensures all _ (Some c.in-Some.n)
     (rw c.deref-2.ensures.value at c.in-Some.ensures.least))
 
 pub returns-clause-apart : goal.returns-clause-apart

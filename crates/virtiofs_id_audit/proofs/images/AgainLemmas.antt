@@ -89,9 +89,7 @@ module _ (images : List Span) (start i reached last : ℕ) (again : List Span) (
         (let more = reached_more images start i id image inside here in
         search (rules, has_or_not, reached_before));
     ends = ends_more new is;
-    firsts =
-        All-weaker (BeginsBefore images i) (BeginsBefore images (i + 1))
-        (λ span low k d from inside'. low k d (omega arith) inside') again so_far.firsts;
+    firsts = search rules;
     lasts = so_far.lasts;
     last_is = so_far.last_is;
   }

@@ -73,8 +73,7 @@ one_covers_or_none (spec ∷ specs) direction n =
 becomes_some : (specs : List IdMap) (direction : Direction) (n : ℕ) → (value : Option ℕ) × Becomes specs direction n value
 becomes_some specs direction n =
     elim (one_covers_or_none specs direction n) [
-      | inl (spec, listed, covers) ↦
-          (let (value, maps) = covered_maps spec direction n covers in (value, inl (spec, listed, maps)))
+      | inl (spec, listed, covers) ↦ search (rules, covered_maps)
       | inr none ↦ (Some n, inr (none, refl))
     ]
 
@@ -85,13 +84,11 @@ LeadsBack-stable specs guest host accepted not =
     let (value, becomes) = becomes_some specs HostToGuest host in
     by value becomes where
       by : (value : Option ℕ) → Becomes specs HostToGuest host value → LeadsBack specs GuestToHost guest host
-      by None becomes =
-          absurd (not (λ back. Becomes-forbidden specs HostToGuest host guest accepted back becomes))
+      by None becomes = search (rules, Becomes-forbidden)
       by (Some back) becomes =
           elim (cases_eq back guest) [
             | inl same ↦ rw same at becomes
-            | inr differ ↦
-                absurd (not (λ leads. differ (Becomes-one specs HostToGuest host back guest accepted becomes leads)))
+            | inr differ ↦ search (rules, Becomes-one)
           ]
 
 -- ---- two lists
@@ -107,8 +104,7 @@ Listed-append specs more direction n value = (to, from) where
       ]
 
   from : Listed specs direction n value ⊎ Listed more direction n value → Listed (specs ++ more) direction n value
-  from (inl (spec, listed, maps)) = (spec, Contains-append_left specs more spec listed, maps)
-  from (inr (spec, listed, maps)) = (spec, Contains-append_right specs more spec listed, maps)
+  from h0 = search (rules, Contains-append_left, Contains-append_right)
 
 -- pairs of the one, pairs of the other, and one of each
 AllPairs-append : {X : Type 0} (R : X → X → Type 0) (xs ys : List X) → AllPairs R xs → AllPairs R ys

@@ -11,29 +11,20 @@ unreachable-requires g c =
 
 pub unreachable-requires-in_default-least_into : goal.unreachable-requires-in_default-least_into
 unreachable-requires-in_default-least_into g c =
-    let goes : GoesTo c.args.map.now c.args.n c.number_of-id.result =
-    record {
+    let goes : GoesTo c.args.map.now c.args.n c.number_of-id.result = record {
       is_id = c.requires.is_bad.1.goes.is_id;
-      becomes =
-          rw c.number_of-id.ensures (rw c.id_of-guest.ensures at c.in-Ok.ensures.looks_up.value);
+      becomes = rw c.number_of-id.ensures (rw c.id_of-guest.ensures at c.in-Ok.ensures.looks_up.value);
     } in
-    shares_later c.args.map.now c.args.n c.number_of-id.result c.map_guest.ensures.accepted c.requires goes
-    (IsLeastIfAny-only c.args.map.now (c.args.n + 1) c.number_of-id.result
-    (record { first = c.number_of-id.result; last = c.number_of-id.result }) None refl refl
-    c.in_default-least_into.ensures.least)
+    shares_later _ _ _ c.map_guest.ensures.accepted c.requires goes
+    (IsLeastIfAny-only _ (c.args.n + 1) _ _ None refl refl c.in_default-least_into.ensures.least)
 
 pub returns-clause-shares : goal.returns-clause-shares
 returns-clause-shares g c =
-    let goes : GoesTo c.args.map.now c.args.n c.number_of-id.result =
-    record {
+    let goes : GoesTo c.args.map.now c.args.n c.number_of-id.result = record {
       is_id = c.requires.is_bad.1.goes.is_id;
-      becomes =
-          rw c.number_of-id.ensures (rw c.id_of-guest.ensures at c.in-Ok.ensures.looks_up.value);
+      becomes = rw c.number_of-id.ensures (rw c.id_of-guest.ensures at c.in-Ok.ensures.looks_up.value);
     } in
     let next =
-    IsLeastIfAny-only c.args.map.now (c.args.n + 1) c.number_of-id.result
-    (record { first = c.number_of-id.result; last = c.number_of-id.result }) (Some c.in-Some.other) refl refl
-    c.in-Some.ensures.least in
+    IsLeastIfAny-only _ (c.args.n + 1) _ _ (Some c.in-Some.other) refl refl c.in-Some.ensures.least in
     rw (c.id_of-guest.ensures, c.id_of.ensures, ← c.number_of-id.ensures)
-    (SharedAs-next c.args.map.now c.args.n c.in-Some.other c.number_of-id.result c.map_guest.ensures.accepted
-    c.requires goes next)
+    (SharedAs-next _ _ _ _ c.map_guest.ensures.accepted c.requires goes next)

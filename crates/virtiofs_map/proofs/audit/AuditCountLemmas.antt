@@ -7,7 +7,6 @@ use Rattle.std.proofs.lemmas.Nat.{mul-le}
 use Rattle.std.proofs.lemmas.List.Sums.{sum_by-cons}
 use Rattle.virtiofs_map.specs.Audit.{most_tried}
 use Rattle.virtiofs_map.specs.AuditParts.{TriedSoFar, none_tried, Tries, most_guest_names}
-use Rattle.virtiofs_map.specs.FirstRule.{acts}
 use Rattle.virtiofs_map.specs.GatheredParts.{part_of}
 use Rattle.virtiofs_map.specs.Rule.{MappingRule}
 use Rattle.virtiofs_map.specs.Steps.{count_after, CountsBetween}
@@ -33,33 +32,13 @@ length_gathered f p few (rule ∷ rules) =
       sum_by-cons (λ rule. cond (p rule) 1 0) rule rules,
     )
 
-pub few_keys : (rules : List MappingRule) (names : List (List ℕ)) → IsPermutation (filter_map (part_of Key) rules) names
-    → length names ≤ count_by (λ rule. rule.client) rules
-few_keys rules names are = grind (arith, length_gathered, length_permutation)
-
-pub few_added : (rules : List MappingRule) (names : List (List ℕ))
-    → IsPermutation (filter_map (part_of (Added Client)) rules) names
-    → length names ≤ count_by (λ rule. rule.client) rules
-few_added rules names are = grind (arith, length_gathered, length_permutation)
-
-pub few_patterns : (side : Side) (rules : List MappingRule) (names : List (List ℕ))
-    → IsPermutation (filter_map (part_of (Host side)) rules) names
-    → length names ≤ count_by (λ rule. acts side rule) rules
-few_patterns side rules names are = grind (arith, length_gathered, length_permutation)
-
 pub few_guest_names : (side : Side) (others rules : List MappingRule) (keys all_added patterns : List (List ℕ))
     → IsPermutation (filter_map (part_of Key) rules) keys
     → IsPermutation (filter_map (part_of (Added Client)) rules) all_added
     → IsPermutation (filter_map (part_of (Host side)) others) patterns
     → length keys + length all_added * length patterns + 255 ≤ most_guest_names side others rules
 few_guest_names side others rules keys all_added patterns are_keys are_added are_patterns =
-    omega (
-      arith,
-      few_keys rules keys are_keys,
-      mul-le (length all_added) (length patterns) (count_by (λ rule. rule.client) rules)
-          (count_by (λ rule. acts side rule) others) (few_added rules all_added are_added)
-          (few_patterns side others patterns are_patterns),
-    )
+    grind (arith, length_gathered, length_permutation, mul-le)
 
 -- ---- how many are counted
 

@@ -10,8 +10,7 @@ use Rattle.std.proofs.lemmas.List.Sorted.{Contains-permutation}
 use Rattle.std.proofs.lemmas.Option.{slice_get_within, get_or_from_slice_get}
 use Rattle.virtiofs_map.specs.AuditParts.{rest_after, rest_of, rests, guest_names, wholes, live_wholes, host_names}
 use Rattle.virtiofs_map.specs.AuditParts.{whole_of, is_cut, IsRest, IsWhole, one_byte_names}
-use Rattle.virtiofs_map.specs.FirstRule.{acts}
-use Rattle.virtiofs_map.specs.GatheredParts.{added_prefix_of, host_pattern, part_of}
+use Rattle.virtiofs_map.specs.GatheredParts.{added_prefix_of, part_of}
 use Rattle.virtiofs_map.specs.Rule.{MappingRule}
 use Rattle.virtiofs_map.specs.declared.audit.gathered.Part.TheVariants.{Key, Added, Host}
 use Rattle.virtiofs_map.specs.declared.xattrmap.scopes.Side.{Side}
@@ -80,8 +79,7 @@ contains_option o xs x c = grind (arith, Contains-append_cases, contains_one)
 pub gathered_member : (f : MappingRule → Option (List ℕ)) (rule : MappingRule) (rules : List MappingRule)
     (name : List ℕ) → Member rule rules → f rule ≡ Some name → Contains (filter_map f rules) name
 gathered_member f rule [] name m e = absurd m
-gathered_member f rule (one ∷ rules) name (inl same) e =
-    contains_first (f one) (filter_map f rules) name (ap f (sym same) ∙ e)
+gathered_member f rule (one ∷ rules) name (inl same) e = grind arith
 gathered_member f rule (one ∷ rules) name (inr m) e =
     contains_later (f one) (filter_map f rules) name (gathered_member f rule rules name m e)
 
@@ -111,16 +109,8 @@ parts_of on pattern more (rule ∷ rules) name c =
     let keys = filter_map (λ rule. cond (on rule) (Some (pattern rule)) None) rules in
     let all_added = filter_map (λ rule. cond (on rule) (added_prefix_of rule) None) rules in
     elim (Contains-append_cases (names rule) (flat_map names rules) name c) [
-      | inl mine ↦ elim (one_rule more (on rule) (pattern rule) (added_prefix_of rule) name mine) [
-        | inl key ↦ inl (contains_first (cond (on rule) (Some (pattern rule)) None) keys name key)
-        | inr led ↦ inr
-            (led.0, contains_first (cond (on rule) (added_prefix_of rule) None) all_added led.0 led.1, led.2)
-      ]
-      | inr others ↦ elim (parts_of on pattern more rules name others) [
-        | inl key ↦ inl (contains_later (cond (on rule) (Some (pattern rule)) None) keys name key)
-        | inr led ↦ inr
-            (led.0, contains_later (cond (on rule) (added_prefix_of rule) None) all_added led.0 led.1, led.2)
-      ]
+      | inl mine ↦ grind (arith, one_rule, contains_first)
+      | inr others ↦ grind (arith, parts_of on pattern more rules name others, contains_later)
     ]
 
 -- ---- names of the guest
@@ -137,17 +127,9 @@ rests_parts side [] added name c = absurd (contains_none name c)
 rests_parts side (rule ∷ others) added name c =
     elim (contains_option (rest_of side added rule) (rests side others added) name c) [
       | inl mine ↦
-          (let (pattern, is, rest) = rest_where added (acts side rule) (host_pattern side rule) name mine in (
-            pattern,
-            contains_first (part_of (Host side) rule) (filter_map (part_of (Host side)) others) pattern is,
-            rest,
-          ))
+          grind (arith, rest_where)
       | inr more ↦
-          (let (pattern, among, rest) = rests_parts side others added name more in (
-            pattern,
-            contains_later (part_of (Host side) rule) (filter_map (part_of (Host side)) others) pattern among,
-            rest,
-          ))
+          grind (arith, rests_parts side others added name more, contains_later)
     ]
 
 pub guest_cover : (side : Side) (others rules : List MappingRule) (keys all_added patterns : List (List ℕ))
@@ -162,16 +144,12 @@ guest_cover side others rules keys all_added patterns are_keys are_added are_pat
       | inl one ↦ inl
           (elim
           (parts_of (λ rule. rule.client) (λ rule. rule.key) (rests side others) rules name one) [
-            | inl key ↦ inl (Contains-permutation (filter_map (part_of Key) rules) keys name are_keys key)
+            | inl key ↦ inl (search Contains-permutation)
             | inr led ↦ inr
                 (let (pattern, among, rest) = rests_parts side others led.0 name led.2 in (
                   led.0,
                   Contains-permutation (filter_map (part_of (Added Client)) rules) all_added led.0 are_added led.1,
-                  (
-                    pattern,
-                    Contains-permutation (filter_map (part_of (Host side)) others) patterns pattern are_patterns among,
-                    rest,
-                  ),
+                  (search Contains-permutation),
                 ))
           ])
     ]
@@ -192,14 +170,9 @@ wholes_parts [] cut name c = absurd (contains_none name c)
 wholes_parts (rule ∷ others) cut name c =
     elim (contains_option (whole_of cut rule) (wholes others cut) name c) [
       | inl mine ↦
-          (let (is, whole) = whole_where cut rule.client rule.key name mine in (
-            rule.key,
-            contains_first (part_of Key rule) (filter_map (part_of Key) others) rule.key is,
-            whole,
-          ))
+          grind (arith, whole_where)
       | inr more ↦
-          (let (key, among, whole) = wholes_parts others cut name more in
-          (key, contains_later (part_of Key rule) (filter_map (part_of Key) others) key among, whole))
+          grind (arith, wholes_parts others cut name more, contains_later)
     ]
 
 pub host_cover : (rules : List MappingRule) (prepends cuts keys : List (List ℕ))
@@ -215,14 +188,9 @@ host_cover rules prepends cuts keys are_prepends are_cuts are_keys name c =
           (elim
           (parts_of (λ rule. rule.server) (λ rule. rule.prepend) (live_wholes rules rules) rules name one) [
             | inl prepend ↦ inl
-                (Contains-permutation (filter_map (part_of (Host Server)) rules) prepends name are_prepends prepend)
+                (search Contains-permutation)
             | inr led ↦ inr
                 (let (on, whole) = live (is_cut rules led.0) (wholes rules led.0) name led.2 in
-                let (key, among, is) = wholes_parts rules led.0 name whole in (
-                  led.0,
-                  Contains-permutation (filter_map (part_of (Added Server)) rules) cuts led.0 are_cuts led.1,
-                  on,
-                  (key, Contains-permutation (filter_map (part_of Key) rules) keys key are_keys among, is),
-                ))
+                let (key, among, is) = wholes_parts rules led.0 name whole in (search Contains-permutation))
           ])
     ]

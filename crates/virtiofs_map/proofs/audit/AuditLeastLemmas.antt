@@ -1,10 +1,9 @@
 -- The least bad name of those tried is the least of all, where each bad name has a bad front that is tried.
-use Rattle.std.proofs.Common.{◌≡◌, ◌↔◌, ◌⊎◌, ℕ, suc, ◌+◌, ◌≤◌, Bool, true, false, ◌&&◌, cond, List, [], ◌∷◌, ◌++◌}
+use Rattle.std.proofs.Common.{◌≡◌, ◌↔◌, ◌⊎◌, ℕ, suc, ◌+◌, ◌≤◌, Bool, true, false, List, [], ◌∷◌, ◌++◌}
 use Rattle.std.proofs.Common.{Option, Some, Result, inl, inr, refl, sym, subst, arith, rules}
-use Rattle.std.specs.Cmp.Lexicographic.{slice_cmp}
 use Rattle.std.specs.List.{All, Contains}
 use Rattle.std.specs.Option.{option_to_list}
-use Rattle.std.specs.Ordering.{nat_cmp, is_lt, ordering_then}
+use Rattle.std.specs.Ordering.{is_lt}
 use Rattle.std.specs.Result.{IfOk}
 use Rattle.std.specs.declared.cmp.Ordering.{Ordering}
 use Rattle.std.specs.declared.cmp.Ordering.TheVariants.{Less}
@@ -12,7 +11,7 @@ use Rattle.std.proofs.lemmas.Bool.{and_parts, cases_Bool, cond_both, false≢tru
 use Rattle.std.proofs.lemmas.Cmp.{nat_list_cmp_total, tied_itself}
 use Rattle.std.proofs.lemmas.List.Elements.{All-head}
 use Rattle.virtiofs_map.specs.Audit.{IsBefore, AnswersLeast, Within}
-use Rattle.virtiofs_map.specs.AuditParts.{TriedSoFar, none_tried, within, is_first, try_one, told, Handled, FoundBad}
+use Rattle.virtiofs_map.specs.AuditParts.{TriedSoFar, none_tried, within, is_first, try_one, told, Handled}
 use Rattle.virtiofs_map.specs.AuditParts.{Finds, Tries, FindsLeast}
 use Rattle.virtiofs_map.specs.MapRule.{IsName}
 use Rattle.virtiofs_map.specs.Names.{begins}
@@ -23,18 +22,13 @@ use Rattle.virtiofs_map.proofs.BeginsLemmas.{begins_split}
 
 -- ---- byte order
 
-then_less : (o : Ordering) (p q : Ordering) → (p ≡ Less → q ≡ Less) → ordering_then o p ≡ Less
-    → ordering_then o q ≡ Less
-then_less o p q f e = grind arith
-
 -- where a name comes before another, so does each front of it
 before_by : (p rest other : List ℕ) → IsBefore (p ++ rest) other → IsBefore p other
 before_by [] [] [] e = absurd (cc)
 before_by [] (x ∷ rest) [] e = absurd (cc)
 before_by [] rest (y ∷ other) e = refl
 before_by (x ∷ p) rest [] e = absurd (cc)
-before_by (x ∷ p) rest (y ∷ other) e =
-    then_less (nat_cmp x y) (slice_cmp nat_cmp (p ++ rest) other) (slice_cmp nat_cmp p other) (before_by p rest other) e
+before_by (x ∷ p) rest (y ∷ other) e = grind (arith, before_by p rest other)
 
 front_before : (p name other : List ℕ) → begins p name ≡ true → IsBefore name other → IsBefore p other
 front_before p name other b e =
@@ -46,58 +40,18 @@ is_lt-true o e = grind (arith, false≢true)
 pub is_lt-false : (o : Ordering) → is_lt o ≡ false → o ≡ Less → ⊥
 is_lt-false o e k = grind (arith, true≢false)
 
-before_trans : (name other more : List ℕ) → IsBefore name other → IsBefore other more → IsBefore name more
-before_trans = nat_list_cmp_total.trans
-
-not_before_itself : (name : List ℕ) → ¬ IsBefore name name
-not_before_itself name e = let same = tied_itself nat_list_cmp_total name in cc
-
 -- ---- the least bad name so far
 
 pub not_first : (least : Option (List ℕ)) (name : List ℕ) → is_first least name ≡ false
     → (found : List ℕ) × (least ≡ Some found) × (¬ IsBefore name found)
 not_first least name e = grind (arith, true≢false, is_lt-false)
 
-first_lower : (found name other : List ℕ) → is_first (Some found) name ≡ true → ¬ IsBefore other found
-    → ¬ IsBefore other name
-first_lower found name other e fails before = search (rules, before_trans, is_lt-true)
-
 -- ---- one name
-
-handled_one : (bad : List ℕ → Bool) (least : Option (List ℕ)) (name : List ℕ)
-    → Handled bad (cond (is_first least name && bad name) (Some name) least) name
-handled_one bad least name is =
-    elim (cases_Bool (is_first least name)) [
-      | inl first ↦ rw (first, is) (name, refl, not_before_itself name)
-      | inr fails ↦ rw fails (not_first least name fails)
-    ]
-
-handled_still : (bad : List ℕ → Bool) (least : Option (List ℕ)) (name other : List ℕ) → Handled bad least other
-    → Handled bad (cond (is_first least name && bad name) (Some name) least) other
-handled_still bad least name other handled is =
-    let (found, e, fails) = handled is in
-    cond_both (is_first least name && bad name) (Some name) least
-    (λ o. (f : List ℕ) × (o ≡ Some f) × (¬ IsBefore other f))
-    (λ b. (
-      name,
-      refl,
-      first_lower found name other
-          (subst (λ o. is_first o name ≡ true) e (and_parts (is_first least name) (bad name) b).0) fails,
-    ))
-    (λ _. (found, e, fails))
-
-found_bad_one : (bad : List ℕ → Bool) (least : Option (List ℕ)) (name : List ℕ) → FoundBad bad least
-    → FoundBad bad (cond (is_first least name && bad name) (Some name) least)
-found_bad_one bad least name before = search (rules, cond_both, and_parts)
 
 finds_one : (bad : List ℕ → Bool) (old : TriedSoFar) (name : List ℕ)
     → Finds bad (λ tried. tried ≡ name) old (try_one bad old name)
-finds_one bad old name = record {
-  handled = λ tried is.
-      subst (Handled bad (try_one bad old name).least) (sym is) (handled_one bad old.least name);
-  kept = λ tried before. handled_still bad old.least name tried before;
-  found_bad = λ before. found_bad_one bad old.least name before;
-}
+finds_one bad old name =
+    grind (arith, cases_Bool, tied_itself, nat_list_cmp_total, not_first, cond_both, is_lt-true, and_parts)
 
 -- ---- many names
 
@@ -142,10 +96,7 @@ pub tries_more : (bad : List ℕ → Bool) (names all : List ℕ → Type 0) (m 
     → Tries bad all (m + 1) a c
 tries_more bad names all m a b c name first e cover =
     tries_join bad names (λ tried. tried ≡ name) all m 1 (m + 1) a b c first
-    (subst (Tries bad (λ tried. tried ≡ name) 1 b) (sym e) (record {
-      finds = finds_one bad b name;
-      counts = λ _. record { steps = 1; at_least = omega arith; at_most = omega arith; counted = refl };
-    })) cover (omega arith)
+    (grind (arith, finds_one)) cover (omega arith)
 
 -- fewer names
 pub finds_fewer : (bad : List ℕ → Bool) (names all : List ℕ → Type 0) (a b : TriedSoFar) → Finds bad names a b

@@ -1,5 +1,6 @@
 -- Names that pass and do not list back: what the test says of them, and that the names tried decide.
-use Rattle.std.proofs.Common.{◌≡◌, ◌≢◌, ℕ, ◌<◌, true, false, not, List, [], ◌∷◌, ◌++◌, length, drop, Option, Some, inl}
+use Rattle.std.proofs.lemmas.Grind.{common_steps}
+use Rattle.std.proofs.Common.{◌≡◌, ◌≢◌, ℕ, true, false, not, List, [], ◌∷◌, ◌++◌, length, drop, Option, Some, inl}
 use Rattle.std.proofs.Common.{inr, refl, sym, ap, ◌∙◌, subst, arith, rules}
 use Rattle.std.specs.List.{All}
 use Rattle.std.specs.Option.{option_map_or}
@@ -14,7 +15,7 @@ use Rattle.virtiofs_map.specs.Names.{begins, HostAnswer, IsListed, IsHidden, IsU
 use Rattle.virtiofs_map.specs.Names.{ListsBack}
 use Rattle.virtiofs_map.specs.Rule.{MappingRule, HasNoZero}
 use Rattle.virtiofs_map.specs.declared.xattrmap.scopes.Side.TheVariants.{Client, Server}
-use Rattle.virtiofs_map.proofs.AuditAlikeLemmas.{Cover, FareAlike, fare_alike, server_alike}
+use Rattle.virtiofs_map.proofs.AuditAlikeLemmas.{Cover, fare_alike, server_alike}
 use Rattle.virtiofs_map.proofs.AuditAddedLemmas.{passes_added, added_passes, listed_cut, cut_listed, answer_to_one}
 use Rattle.virtiofs_map.proofs.AuditAddedLemmas.{server_one, added_no_zero}
 use Rattle.virtiofs_map.proofs.audit.AuditLeastLemmas.{Decide, HasBadFront, decide_within}
@@ -31,8 +32,7 @@ some_byte_is name e none = let zero = ap some_byte none in absurd (true≢false 
 -- what a name becomes holds no zero, and is not empty
 pub host_no_zero : (rules : List MappingRule) (name added : List ℕ) → All HasNoZero rules → IsName name
     → added_prefix Client rules name ≡ Some added → All IsNotZero (added ++ name)
-host_no_zero rules name added no_zero is e =
-    All-append IsNotZero added name (added_no_zero Client rules name added no_zero e) (not_zero_name name is)
+host_no_zero rules name added no_zero is e = grind (arith, common_steps, All-append, added_no_zero, not_zero_name)
 
 pub host_not_empty : (added name : List ℕ) → name ≢ [] → added ++ name ≢ []
 host_not_empty [] name some e = some e
@@ -55,15 +55,13 @@ back_where_cut rules name added no_zero is some e c =
     record {
       becomes = added ++ name;
       passes = added_passes rules name added e;
-      lists = server_one rules (added ++ name) (host_not_empty added name some)
-          (host_no_zero rules name added no_zero is e) ∙ ap answer_to_one (listed ∙ ap IsListed rest);
+      lists = grind (arith, server_one, host_not_empty, host_no_zero, answer_to_one);
     }
 
 length_back : (added name cut : List ℕ) → name ≢ [] → length (drop (length cut) (added ++ name)) ≡ length name
     → length cut ≡ length added
 length_back added [] cut some e = absurd (some refl)
-length_back added (x ∷ xs) cut some e =
-    omega (arith, length-drop (length cut) (added ++ x ∷ xs), length-append added (x ∷ xs), e)
+length_back added (x ∷ xs) cut some e = grind (arith, length-drop, length-append)
 
 one_longer : (m n : List ℕ) → m ++ 0 ∷ [] ≡ n ++ 0 ∷ [] → length m ≡ length n
 one_longer m n e = omega (arith, ap length e, length-append m (0 ∷ []), length-append n (0 ∷ []))
@@ -105,11 +103,6 @@ lost_added : (rules : List MappingRule) (name : List ℕ) (o : Option (List ℕ)
     → (added : List ℕ) × (o ≡ Some added)
 lost_added rules name o e = grind (arith, false≢true)
 
-pub lost_test : (rules : List MappingRule) → All HasNoZero rules → (name : List ℕ) → IsLost rules name
-    → is_lost rules name ≡ true
-lost_test rules no_zero name lost =
-    grind (arith, passes_added, lost_at, not_from_false, false_from_ne_true, back_where_cut)
-
 pub test_lost : (rules : List MappingRule) → All HasNoZero rules → (name : List ℕ) → IsName name
     → is_lost rules name ≡ true → IsLost rules name
 test_lost rules no_zero name is e =
@@ -124,18 +117,10 @@ test_lost rules no_zero name is e =
       not_empty = some;
       host = added ++ name;
       passes = added_passes rules name added at;
-      not_back = λ back.
-          (let c = cut_where_back rules name added no_zero is some at back in
-          let n = not-true (cuts added (added_prefix Server rules (added ++ name)))
-          (sym (lost_at rules name added some at) ∙ e) in
-          true≢false (sym c ∙ n));
+      not_back = grind (arith, cut_where_back, not-true, lost_at, true≢false);
     }
 
 -- ---- the names tried decide
-
-lost_alike : (rules : List MappingRule) (name c added : List ℕ) → name ≢ [] → c ≢ []
-    → FareAlike Server rules rules name c → added_prefix Client rules name ≡ Some added → is_lost rules c ≡ is_lost rules name
-lost_alike rules name c added some other alike e = grind (arith, server_alike, lost_at)
 
 lost_front_tried : (rules : List MappingRule) → All HasNoZero rules → (beginning : List ℕ) (tried : List (List ℕ))
     → Cover beginning (guest_names Server rules rules) tried
@@ -143,18 +128,7 @@ lost_front_tried : (rules : List MappingRule) → All HasNoZero rules → (begin
     → HasBadFront (within beginning (is_lost rules)) tried name
 lost_front_tried rules no_zero beginning tried cover [] lost b = absurd (lost.not_empty refl)
 lost_front_tried rules no_zero beginning tried cover (x ∷ xs) lost b =
-    let bounds = All-head (λ byte. (0 < byte) × (byte < 256)) x xs lost.is_name in
-    let found = cover x xs bounds.0 bounds.1 b in
-    let by = passes_added rules (x ∷ xs) lost.host lost.passes in
-    let alike = fare_alike Server rules rules tried (x ∷ xs) found.by found.stands in
-    record {
-      by = found.by;
-      is_front = found.stands.is_front;
-      is_bad = and_from (begins beginning found.by) (is_lost rules found.by) found.front
-          (lost_alike rules (x ∷ xs) found.by by.added lost.not_empty found.stands.not_empty alike by.is
-          ∙ lost_test rules no_zero (x ∷ xs) lost);
-      is_tried = found.stands.is_tried;
-    }
+    grind (arith, All-head, passes_added, fare_alike, and_from, server_alike, lost_at, not_from_false, false_from_ne_true, back_where_cut)
 
 pub lost_decide : (rules : List MappingRule) → All HasNoZero rules → (beginning : List ℕ) (tried : List (List ℕ))
     → Cover beginning (guest_names Server rules rules) tried → Decide (Within beginning (IsLost rules))
@@ -171,9 +145,7 @@ sound_where_none rules no_zero none name host is some passes =
       | inl c ↦ back_where_cut rules name by.added no_zero is some by.is c
       | inr c ↦ absurd
           (none name
-          (test_lost rules no_zero name is
-          (lost_at rules name by.added some by.is
-          ∙ not_from_false (cuts by.added (added_prefix Server rules (by.added ++ name))) c)))
+          (grind (arith, test_lost, lost_at, not_from_false)))
     ]
 
 pub none_where_sound : (rules : List MappingRule) → Sound rules → (name : List ℕ) → ¬ IsLost rules name

@@ -1,6 +1,6 @@
 -- Names in the order of their bytes.
-use Rattle.std.proofs.Common.{◌≡◌, ℕ, ◌-◌, ◌<◌, ◌≤◌, true, false, eqb, List, [], ◌∷◌, ◌++◌, length, get_or, Contains}
-use Rattle.std.proofs.Common.{Option, Some, None, inl, inr, refl, sym, ap, subst, ◌∙◌, arith, rules}
+use Rattle.std.proofs.Common.{◌≡◌, ℕ, ◌-◌, ◌<◌, ◌≤◌, true, false, List, [], ◌∷◌, ◌++◌, length, get_or, Contains}
+use Rattle.std.proofs.Common.{Option, Some, inl, inr, refl, ap, ◌∙◌, arith, rules}
 use Rattle.std.specs.BTreeMap.Comparable.{le_lt_trans}
 use Rattle.std.specs.Cmp.Lexicographic.{slice_cmp, nat_list_cmp_total}
 use Rattle.std.specs.List.{slice_get}
@@ -8,7 +8,7 @@ use Rattle.std.specs.List.Sorted.{IsPartitionedBy, IsPartitionPoint}
 use Rattle.std.specs.Ordering.{nat_cmp, is_lt, is_le, ordering_index, ordering_reverse, ordering_then}
 use Rattle.std.specs.declared.cmp.Ordering.{Ordering}
 use Rattle.std.specs.declared.cmp.Ordering.TheVariants.{Less, Greater}
-use Rattle.std.proofs.lemmas.Bool.{and_parts, and_from, cases_Bool, cases_lt, false≢true, true≢false, eq-eqb, eqb-true}
+use Rattle.std.proofs.lemmas.Bool.{cases_Bool, cases_lt, false≢true, true≢false}
 use Rattle.std.proofs.lemmas.Cmp.{ranked, by_ranked, nat_cmp_total, tied_itself}
 use Rattle.std.proofs.lemmas.List.Sorted.{ranks_by, sorted_far, searchable_from_sorted}
 use Rattle.std.proofs.lemmas.Option.{slice_get-get_or, slice_get_within, get_or_from_slice_get}
@@ -50,8 +50,7 @@ in_order names ordered i j one other l here there =
     let at_i : get_or names i one ≡ one = get_or_from_slice_get names i one one here in
     let at_j : get_or names j one ≡ other = get_or_from_slice_get names j other one there in
     is_lt-false (slice_cmp nat_cmp other one)
-    (subst (λ (a : List ℕ). is_lt (slice_cmp nat_cmp other a) ≡ false) at_i
-    (subst (λ (b : List ℕ). is_lt (slice_cmp nat_cmp b (get_or names i one)) ≡ false) at_j far))
+    (grind arith)
 
 lt_lower : (o p : Ordering) → ordering_index o ≤ ordering_index p → is_lt p ≡ true → is_lt o ≡ true
 lt_lower o p l e = grind (arith, false≢true)
@@ -101,17 +100,13 @@ last_up_to names bytes last count ordered some parted there = record {
   up_to =
       (let at = get_or_from_slice_get names (count - 1) last last there in
       not_after_from_passes last bytes
-      (subst (λ (a : List ℕ). is_le (slice_cmp nat_cmp a bytes) ≡ true) at
-      (parted.0 (count - 1) last (omega arith) (omega arith))));
+      (grind arith));
   latest = λ name among up_to.
       (let (k, l, here) = place_of names name among in
       let at = get_or_from_slice_get names k name name here in
       elim (cases_lt k count) [
         | inl below ↦ in_order names ordered k (count - 1) name last (omega arith) here there
-        | inr above ↦ absurd
-            (up_to
-            (after_from_fails name bytes
-            (subst (λ (a : List ℕ). is_le (slice_cmp nat_cmp a bytes) ≡ false) at (parted.1 k name above l))))
+        | inr above ↦ grind (arith, after_from_fails)
       ]);
 }
 
@@ -120,10 +115,7 @@ found_at : (names : List (List ℕ)) (bytes : List ℕ) (found : Option (List �
     → IsPartitionPoint (λ name. is_le (slice_cmp nat_cmp name bytes) ≡ true)
     (λ name. is_le (slice_cmp nat_cmp name bytes) ≡ false) names count
     → found ≡ slice_get names (count - 1) → IsLastUpTo names bytes found
-found_at names bytes None count ordered some l parted e =
-    absurd (let there = slice_get-get_or names (count - 1) [] (omega arith) in let both = e ∙ there in cc)
-found_at names bytes (Some last) count ordered some l parted e =
-    last_up_to names bytes last count ordered some parted (sym e)
+found_at names bytes found count ordered some l parted e = grind (arith, slice_get-get_or, last_up_to)
 
 pub last_at : (names same : List (List ℕ)) (bytes : List ℕ) (found : Option (List ℕ)) (count : ℕ) → names ≡ same
     → AreOrdered names → 0 < count → count ≤ length names
@@ -142,41 +134,20 @@ first_byte x y rest more fails others = search (rules, by_ranked, ranked)
 pub level : (x : ℕ) (rest : Ordering) → ordering_then (nat_cmp x x) rest ≡ rest
 level x rest = ap (λ o. ordering_then o rest) (tied_itself nat_cmp_total x)
 
-pub same_first : (x : ℕ) (rest : Ordering) → ¬ (ordering_then (nat_cmp x x) rest ≡ Less) → ¬ (rest ≡ Less)
-same_first x rest fails less = fails (level x rest ∙ less)
-
 -- what begins a name begins all names that stand between it and that name
 pub between : (front middle name : List ℕ) → begins front name ≡ true → ¬ IsBefore middle front → ¬ IsBefore name middle
     → begins front middle ≡ true
 between [] middle name b low high = refl
 between (x ∷ front) middle [] b low high = absurd (false≢true b)
 between (x ∷ front) [] (z ∷ name) b low high = absurd (low refl)
-between (x ∷ front) (y ∷ middle) (z ∷ name) b low high =
-    let parts = and_parts (eqb x z) (begins front name) b in
-    let first : x ≡ z = eqb-true x z parts.0 in
-    let above : ¬ (ordering_then (nat_cmp x y) (slice_cmp nat_cmp name middle) ≡ Less) =
-    subst (λ (a : ℕ). ¬ (ordering_then (nat_cmp a y) (slice_cmp nat_cmp name middle) ≡ Less)) (sym first) high in
-    let same : x ≡ y =
-    first_byte x y (slice_cmp nat_cmp name middle) (slice_cmp nat_cmp middle front) above low in
-    let lower : ¬ (ordering_then (nat_cmp x x) (slice_cmp nat_cmp middle front) ≡ Less) =
-    subst (λ (a : ℕ). ¬ (ordering_then (nat_cmp a x) (slice_cmp nat_cmp middle front) ≡ Less)) (sym same) low in
-    let upper : ¬ (ordering_then (nat_cmp x x) (slice_cmp nat_cmp name middle) ≡ Less) =
-    subst (λ (a : ℕ). ¬ (ordering_then (nat_cmp x a) (slice_cmp nat_cmp name middle) ≡ Less)) (sym same) above in
-    and_from (eqb x y) (begins front middle) (eq-eqb x y same)
-    (between front middle name parts.1 (same_first x (slice_cmp nat_cmp middle front) lower)
-    (same_first x (slice_cmp nat_cmp name middle) upper))
+between (x ∷ front) (y ∷ middle) (z ∷ name) b low high = grind (arith, between front middle name)
 
 -- a name does not come before what begins it
 pub front_not_before : (front name : List ℕ) → begins front name ≡ true → ¬ IsBefore name front
 front_not_before [] [] b l = cc
 front_not_before [] (y ∷ name) b l = cc
 front_not_before (x ∷ front) [] b l = false≢true b
-front_not_before (x ∷ front) (y ∷ name) b l =
-    let parts = and_parts (eqb x y) (begins front name) b in
-    let same : x ≡ y = eqb-true x y parts.0 in
-    let less : ordering_then (nat_cmp x x) (slice_cmp nat_cmp name front) ≡ Less =
-    subst (λ (a : ℕ). ordering_then (nat_cmp a x) (slice_cmp nat_cmp name front) ≡ Less) (sym same) l in
-    front_not_before front name parts.1 (sym (level x (slice_cmp nat_cmp name front)) ∙ less)
+front_not_before (x ∷ front) (y ∷ name) b l = grind (arith, front_not_before front name)
 
 -- ---- names after the same bytes
 
@@ -188,7 +159,4 @@ cmp_after (x ∷ cut) one other = level x (slice_cmp nat_cmp (cut ++ one) (cut +
 pub not_before_trans : (one other more : List ℕ) → ¬ IsBefore one other → ¬ IsBefore other more → ¬ IsBefore one more
 not_before_trans one other more first then = λ less.
     then (le_lt_trans nat_list_cmp_total other one more
-    (elim (cases_Bool (is_le (slice_cmp nat_cmp other one))) [
-      | inl le ↦ le
-      | inr above ↦ absurd (first (after_from_fails other one above))
-    ]) less)
+    (grind (arith, cases_Bool, after_from_fails)) less)

@@ -1,12 +1,12 @@
 -- Names that pass as a host name, not empty, of which a test holds: what the test of names says of them, and that the
 -- names tried decide.
-use Rattle.std.proofs.Common.{◌≡◌, ◌≢◌, ℕ, ◌<◌, Bool, true, false, ◌&&◌, ltb, List, [], ◌∷◌, ◌++◌, length, drop, Option}
-use Rattle.std.proofs.Common.{Some, inl, refl, sym, ap, ◌∙◌, subst, arith, rules}
+use Rattle.std.proofs.Common.{◌≡◌, ◌≢◌, ℕ, ◌<◌, Bool, true, ◌&&◌, List, [], ◌∷◌, ◌++◌, length, drop}
+use Rattle.std.proofs.Common.{Some, refl, sym, ap, ◌∙◌, subst, arith, rules}
 use Rattle.std.specs.List.{All, AllByRecursion}
-use Rattle.std.specs.Option.{option_map_or, option_and_then}
-use Rattle.std.proofs.lemmas.Bool.{and_parts, and_from, false≢true, lt-ltb, ltb-true}
+use Rattle.std.specs.Option.{option_and_then}
+use Rattle.std.proofs.lemmas.Bool.{and_parts, and_from, false≢true, lt-ltb}
 use Rattle.std.proofs.lemmas.List.{append_assoc}
-use Rattle.std.proofs.lemmas.List.Elements.{All-head, All-tail, All-nil, All-cons}
+use Rattle.std.proofs.lemmas.List.Elements.{All-head, All-tail, All-nil}
 use Rattle.virtiofs_map.specs.Audit.{Within}
 use Rattle.virtiofs_map.specs.AuditParts.{added_prefix, some_byte, all_bytes, passes_where, within, guest_names}
 use Rattle.virtiofs_map.specs.AuditParts.{one_byte_names}
@@ -30,30 +30,19 @@ IsByteOfName byte = (0 < byte) × (byte < 256)
 pub all_bytes_from : (name : List ℕ) → IsName name → all_bytes name ≡ true
 all_bytes_from [] is = refl
 all_bytes_from (x ∷ xs) is =
-    and_from (ltb x 256) (all_bytes xs) (lt-ltb x 256 (All-head IsByteOfName x xs is).1)
-    (all_bytes_from xs (All-tail IsByteOfName x xs is))
-
-positive : (x : ℕ) → x ≢ 0 → 0 < x
-positive x some = grind arith
+    grind (arith, all_bytes_from xs (All-tail IsByteOfName x xs is), and_from, lt-ltb, All-head, All-tail)
 
 name_from : (name : List ℕ) → All IsNotZero name → all_bytes name ≡ true → IsName name
 name_from [] no_zero e = All-nil IsByteOfName
-name_from (x ∷ xs) no_zero e =
-    let parts = and_parts (ltb x 256) (all_bytes xs) e in
-    All-cons IsByteOfName x xs (positive x (All-head IsNotZero x xs no_zero), ltb-true x 256 parts.0)
-    (name_from xs (All-tail IsNotZero x xs no_zero) parts.1)
+name_from (x ∷ xs) no_zero e = grind (arith, name_from xs (All-tail IsNotZero x xs no_zero))
 
 all_bytes_front : (xs ys : List ℕ) → all_bytes (xs ++ ys) ≡ true → all_bytes xs ≡ true
 all_bytes_front [] ys e = refl
-all_bytes_front (x ∷ xs) ys e =
-    let parts = and_parts (ltb x 256) (all_bytes (xs ++ ys)) e in
-    and_from (ltb x 256) (all_bytes xs) parts.0 (all_bytes_front xs ys parts.1)
+all_bytes_front (x ∷ xs) ys e = grind (arith, all_bytes_front xs ys)
 
 pub all_bytes_below : (name : List ℕ) → All (λ byte. byte < 256) name → all_bytes name ≡ true
 all_bytes_below [] below = refl
-all_bytes_below (x ∷ xs) below =
-    and_from (ltb x 256) (all_bytes xs) (lt-ltb x 256 (All-head (λ byte. byte < 256) x xs below))
-    (all_bytes_below xs (All-tail (λ byte. byte < 256) x xs below))
+all_bytes_below (x ∷ xs) below = search (rules, all_bytes_below xs, and_from, lt-ltb, All-head, All-tail)
 
 -- ---- the test of names
 
@@ -73,15 +62,6 @@ where_at test rules name added e = rw e refl
 pub where_test : (test : List ℕ → Bool) (rules : List MappingRule) (name : List ℕ) → PassesWhere test rules name
     → passes_where test rules name ≡ true
 where_test test rules name passes = grind (arith, where_at, and_from, some_byte_from)
-
-where_added : (test : List ℕ → Bool) (name : List ℕ) (o : Option (List ℕ))
-    → option_map_or (λ added. some_byte (added ++ name) && (all_bytes (added ++ name) && test (added ++ name))) o
-    false ≡ true → (added : List ℕ) × (o ≡ Some added)
-where_added test name o e = grind (arith, false≢true)
-
-pub test_where : (test : List ℕ → Bool) (rules : List MappingRule) (name : List ℕ) → passes_where test rules name ≡ true
-    → PassesWhere test rules name
-test_where test rules name e = grind (arith, where_added, and_parts, where_at, some_byte_is)
 
 -- the host name is a name
 pub where_is_name : (test : List ℕ → Bool) (rules : List MappingRule) → All HasNoZero rules → (name : List ℕ)
@@ -111,20 +91,15 @@ longer_front added c name f bytes =
 
 -- only no bytes begin the empty name
 pub begins_none : (p : List ℕ) → begins p [] ≡ true → [] ≡ p
-begins_none [] b = refl
-begins_none (x ∷ p) b = absurd (false≢true b)
+begins_none p b = search (rules, false≢true)
 
 pub front_tried : (test : List ℕ → Bool) (side : Side) (rules others : List MappingRule)
     → HoldsOfFronts test side others → (beginning name : List ℕ) → IsName name → PassesWhere test rules name
     → begins beginning name ≡ true
     → HasBadFront (within beginning (passes_where test rules))
     (beginning ∷ guest_names side others rules ++ one_byte_names) name
-front_tried test side rules others holds beginning [] is passes b = record {
-  by = [];
-  is_front = refl;
-  is_bad = and_from (begins beginning []) (passes_where test rules []) b (where_test test rules [] passes);
-  is_tried = inl (begins_none beginning b);
-}
+front_tried test side rules others holds beginning [] is passes b =
+    grind (arith, and_from, where_at, some_byte_from, begins_none)
 front_tried test side rules others holds beginning (x ∷ xs) is passes b =
     let bounds = All-head IsByteOfName x xs is in
     let found = cover_within beginning (guest_names side others rules) x xs bounds.0 bounds.1 b in
@@ -156,4 +131,5 @@ pub record AreThose (Bad : List ℕ → Type 0) (test : List ℕ → Bool) (rule
 pub where_decide : (Bad : List ℕ → Type 0) (test : List ℕ → Bool) (side : Side) (rules others : List MappingRule)
     → AreThose Bad test rules → HoldsOfFronts test side others → (beginning : List ℕ) → Decide (Within beginning Bad)
     (within beginning (passes_where test rules)) (beginning ∷ guest_names side others rules ++ one_byte_names)
-where_decide Bad test side rules others those holds beginning = grind (arith, decide_within, test_where, front_tried)
+where_decide Bad test side rules others those holds beginning =
+    grind (arith, decide_within, false≢true, and_parts, where_at, some_byte_is, front_tried)

@@ -1,21 +1,18 @@
 -- Whether a map reaches a name of the host: it is enough to try what rules put before names, where it begins that name.
-use Rattle.std.proofs.Common.{◌≡◌, ℕ, zero, suc, ◌+◌, ◌-◌, ◌<◌, ◌≤◌, Bool, true, false, cond, eqb, List, [], ◌∷◌}
+use Rattle.std.proofs.Common.{◌≡◌, ℕ, zero, suc, ◌-◌, ◌<◌, ◌≤◌, Bool, true, false, cond, eqb, List, [], ◌∷◌}
 use Rattle.std.proofs.Common.{length, take, drop, Contains, Option, Some, None, inl, inr, refl, sym, ap, subst, ◌∙◌}
 use Rattle.std.proofs.Common.{arith, rules}
-use Rattle.std.specs.Cmp.Lexicographic.{slice_cmp}
 use Rattle.std.specs.List.{filter_map}
 use Rattle.std.specs.List.Sorted.{IsPermutation}
-use Rattle.std.specs.Ordering.{nat_cmp, ordering_then}
-use Rattle.std.specs.declared.cmp.Ordering.TheVariants.{Less}
 use Rattle.std.proofs.lemmas.List.{length-take, nil_from_length}
-use Rattle.std.proofs.lemmas.Bool.{and_parts, and_from, false_from_ne_true, cases_Bool, cases_lt, eq-eqb, eqb-true}
+use Rattle.std.proofs.lemmas.Bool.{and_parts, and_from, false_from_ne_true, cases_Bool, cases_lt, eqb-true}
 use Rattle.std.proofs.lemmas.Bool.{false≢true, true≢false}
 use Rattle.std.proofs.lemmas.List.Sorted.{Contains-permutation}
 use Rattle.std.proofs.lemmas.List.Sums.{common_prefix_len-le}
 use Rattle.virtiofs_map.specs.Audit.{IsBefore}
 use Rattle.virtiofs_map.specs.AuditParts.{added_prefix, adds, passes_with, is_reached}
 use Rattle.virtiofs_map.specs.FirstRule.{shared}
-use Rattle.virtiofs_map.specs.GatheredParts.{added_prefix_of, part_of, IsLast}
+use Rattle.virtiofs_map.specs.GatheredParts.{part_of, IsLast}
 use Rattle.virtiofs_map.specs.Names.{begins}
 use Rattle.virtiofs_map.specs.Rule.{MappingRule}
 use Rattle.virtiofs_map.specs.declared.audit.gathered.Part.TheVariants.{Added}
@@ -38,25 +35,14 @@ front_shared : (p one other : List ℕ) → begins p one ≡ true → begins p o
 front_shared [] one other b d = omega arith
 front_shared (x ∷ p) [] other b d = absurd (false≢true b)
 front_shared (x ∷ p) (y ∷ one) [] b d = absurd (false≢true d)
-front_shared (x ∷ p) (y ∷ one) (z ∷ other) b d =
-    let first = and_parts (eqb x y) (begins p one) b in
-    let second = and_parts (eqb x z) (begins p other) d in
-    let same : y ≡ z = sym (eqb-true x y first.0) ∙ eqb-true x z second.0 in
-    let is = ap (λ b. cond b (1 + shared one other) 0) (eq-eqb y z same) in
-    omega (arith, front_shared p one other first.1 second.1, is)
-
-shared_head : (y x : ℕ) (n more : ℕ) → cond (eqb y x) (1 + n) 0 ≡ suc more → (y ≡ x) × (n ≡ more)
-shared_head y x n more e = search (rules, cases_Bool, eqb-true)
+front_shared (x ∷ p) (y ∷ one) (z ∷ other) b d = grind (arith, front_shared p one other)
 
 -- a row that is the beginning of a longer one comes before it
 shared_before : (last rest : List ℕ) → shared last rest ≡ length rest → length rest < length last
     → IsBefore rest last
 shared_before [] rest e l = absurd (omega arith)
 shared_before (y ∷ last) [] e l = refl
-shared_before (y ∷ last) (x ∷ rest) e l =
-    let (same, more) = shared_head y x (shared last rest) (length rest) e in
-    let less = level y (slice_cmp nat_cmp rest last) ∙ shared_before last rest more (omega arith) in
-    subst (λ (a : ℕ). ordering_then (nat_cmp a y) (slice_cmp nat_cmp rest last) ≡ Less) same less
+shared_before (y ∷ last) (x ∷ rest) e l = grind (arith, shared_before last rest, cases_Bool, eqb-true, level)
 
 -- where the last name up to a row does not begin it, it shares less than the row
 pub shares_less : (names : List (List ℕ)) (rest last : List ℕ) → IsLast names rest last
@@ -68,11 +54,7 @@ same_front : (p name : List ℕ) → begins p name ≡ true → length p ≡ len
 same_front [] [] b e = refl
 same_front [] (y ∷ name) b e = absurd (omega arith)
 same_front (x ∷ p) [] b e = absurd (false≢true b)
-same_front (x ∷ p) (y ∷ name) b e =
-    let parts = and_parts (eqb x y) (begins p name) b in
-    let head = eqb-true x y parts.0 in
-    let tail = same_front p name parts.1 (omega arith) in
-    cc
+same_front (x ∷ p) (y ∷ name) b e = grind (arith, same_front p name)
 
 -- ---- the added prefixes that are left
 
@@ -115,9 +97,7 @@ begins_take : (k : ℕ) (rest host : List ℕ) → begins rest host ≡ true →
 begins_take zero rest host b = refl
 begins_take (suc k) [] host b = refl
 begins_take (suc k) (x ∷ rest) [] b = absurd (false≢true b)
-begins_take (suc k) (x ∷ rest) (y ∷ host) b =
-    let parts = and_parts (eqb x y) (begins rest host) b in
-    and_from (eqb x y) (begins (take k rest) host) parts.0 (begins_take k rest host parts.1)
+begins_take (suc k) (x ∷ rest) (y ∷ host) b = grind (arith, begins_take k rest host)
 
 pub take_within : (k : ℕ) (rest : List ℕ) → k ≤ length rest → length (take k rest) ≡ k
 take_within k rest l = omega (arith, length-take k rest)
@@ -171,7 +151,7 @@ leads_with : (rules : List MappingRule) (host : List ℕ) (leads : LeadsTo rules
     → passes_with rules host leads.added ≡ true
 leads_with rules host leads =
     and_from (begins leads.added host) (adds leads.added (added_prefix Client rules (drop (length leads.added) host)))
-    (ap (begins leads.added) leads.host_is ∙ begins-append leads.added leads.name)
+    (grind (arith, begins-append))
     (ap (λ n. adds leads.added (added_prefix Client rules n)) (rest_is rules host leads)
     ∙ ap (adds leads.added) (added_is rules host leads) ∙ bytes_same leads.added)
 
@@ -191,9 +171,9 @@ not_reached rules all_added host are none =
     let fit = rule_fits rules host leads in
     let among =
     gathered_member (part_of (Added Client)) leads.rule rules leads.added (rule_member rules host leads)
-    (added_where leads.rule.client (added_prefix_of leads.rule) leads.added fit.0 leads.puts) in
+    (search added_where) in
     none leads.added
-    (Contains-permutation (filter_map (part_of (Added Client)) rules) all_added leads.added are among)
+    (search Contains-permutation)
     (leads_with rules host leads)))
 
 -- all of them come after the rest
@@ -206,7 +186,7 @@ not_reached_past rules all_added host rest are left past =
       | inl longer ↦ true≢false (sym e ∙ left.others added among longer)
       | inr within ↦
           front_not_before added rest
-          (shorter_begins added rest host (passes_begins rules host added e) left.begun within) (past added among)
+          (search (shorter_begins, passes_begins)) (past added among)
     ])
 
 -- the last one up to the rest is empty, and does not lead to the host name

@@ -1,5 +1,5 @@
 -- Names whose host name another map does not hide: that the names tried decide, and what they mean for lists.
-use Rattle.std.proofs.Common.{◌≡◌, ◌≢◌, ℕ, ◌<◌, Bool, true, false, ◌&&◌, not, cond, List, [], ◌∷◌, ◌++◌, length, filter}
+use Rattle.std.proofs.Common.{◌≡◌, ◌≢◌, ℕ, ◌<◌, Bool, true, ◌&&◌, not, cond, List, [], ◌∷◌, ◌++◌, length}
 use Rattle.std.proofs.Common.{Some, None, inl, inr, refl, sym, ap, ◌∙◌, subst, arith, rules}
 use Rattle.std.specs.List.{All, cons_option, list_all, filter_map}
 use Rattle.std.proofs.lemmas.Bool.{cases_Bool, true≢false, not-true, not_from_false, false_from_ne_true, ne_eqb}
@@ -17,7 +17,7 @@ use Rattle.virtiofs_map.proofs.AuditAlikeLemmas.{server_alike}
 use Rattle.virtiofs_map.proofs.AuditAddedLemmas.{passes_added, added_passes, hidden_test, test_hidden}
 use Rattle.virtiofs_map.proofs.audit.AuditLeastLemmas.{Decide}
 use Rattle.virtiofs_map.proofs.audit.AuditPassLemmas.{IsByteOfName, all_bytes_from, PassesWhere, where_is_name}
-use Rattle.virtiofs_map.proofs.audit.AuditPassLemmas.{HoldsOfFronts, AreThose, where_decide}
+use Rattle.virtiofs_map.proofs.audit.AuditPassLemmas.{AreThose, where_decide}
 use Rattle.virtiofs_map.proofs.MapRuleLemmas.{not_zero_name, some_name}
 use Rattle.virtiofs_map.proofs.NoZeroLemmas.{IsNotZero}
 use Rattle.virtiofs_map.proofs.ServerListLemmas.{is_name, is_zero}
@@ -38,9 +38,7 @@ those_seen rules others no_zero = record {
     not_empty = passes.some;
     passes = added_passes rules name passes.added passes.is;
     not_hidden =
-        λ k. true≢false
-        (sym (hidden_test others (passes.added ++ name) k)
-        ∙ not-true (is_hidden others (passes.added ++ name)) passes.holds);
+        grind (arith, true≢false, hidden_test, not-true);
   };
   all = λ name seen. (seen.is_name, of_seen name seen);
 } where
@@ -49,7 +47,7 @@ those_seen rules others no_zero = record {
       let by = passes_added rules name seen.host seen.passes in
       let shown =
       false_from_ne_true (is_hidden others (by.added ++ name))
-      (λ k. seen.not_hidden (ap (host_answer others) by.host_is ∙ test_hidden others (by.added ++ name) k)) in
+      (grind (arith, test_hidden)) in
       record {
         added = by.added;
         is = by.is;
@@ -58,14 +56,10 @@ those_seen rules others no_zero = record {
         holds = not_from_false (is_hidden others (by.added ++ name)) shown;
       }
 
--- the names tried decide
-shown_of_fronts : (others : List MappingRule) → HoldsOfFronts (is_shown others) Server others
-shown_of_fronts others host other front both shown = search (rules, server_alike)
-
 pub seen_decide : (rules others : List MappingRule) → All HasNoZero rules → (beginning : List ℕ)
     → Decide (Within beginning (IsSeen rules others)) (within beginning (is_seen rules others))
     (beginning ∷ guest_names Server others rules ++ one_byte_names)
-seen_decide rules others no_zero = search (rules, where_decide, those_seen, shown_of_fronts)
+seen_decide rules others no_zero = grind (arith, where_decide, those_seen, server_alike)
 
 -- ---- apart
 
@@ -74,14 +68,7 @@ pub apart_where_none : (rules others : List MappingRule) → ((name : List ℕ) 
 apart_where_none rules others none host reached =
     elim (cases_Bool (is_hidden others host)) [
       | inl k ↦ test_hidden others host k
-      | inr k ↦ absurd (none reached.name (record {
-        is_name = reached.is_name;
-        host = host;
-        is_host = reached.is_host;
-        not_empty = reached.not_empty;
-        passes = reached.passes;
-        not_hidden = λ h. true≢false (sym (hidden_test others host h) ∙ k);
-      }))
+      | inr k ↦ absurd (none reached.name (grind (arith, is_name, true≢false, hidden_test)))
     ]
 
 reached_by : (rules others : List MappingRule) (name : List ℕ) (seen : IsSeen rules others name)
@@ -108,21 +95,11 @@ record SameWithout (rules : List MappingRule) (all rest : List (List ℕ)) : Typ
 same_without : (rules : List MappingRule) (set : List ℕ → Type 0)
     → ((name : List ℕ) → set name → host_answer rules name ≡ IsHidden) → (all rest : List (List ℕ))
     → Leaves set all rest → SameWithout rules all rest
-same_without rules set hides [] rest e =
-    record { decided = ap (all_decided rules) (sym e); listed = ap (all_listed rules) (sym e) }
+same_without rules set hides [] rest e = grind arith
 same_without rules set hides (name ∷ all) rest (inl (within, leaves)) =
-    let more = same_without rules set hides all rest leaves in
-    let hidden = hides name within in
-    record {
-      decided = ap (λ answer. is_decided answer && all_decided rules all) hidden ∙ more.decided;
-      listed = ap (λ answer. cons_option (listed_name answer) (all_listed rules all)) hidden ∙ more.listed;
-    }
+    grind (arith, same_without rules set hides all rest leaves)
 same_without rules set hides (name ∷ all) rest (inr (out, others, e, leaves)) =
-    let more = same_without rules set hides all others leaves in
-    record {
-      decided = ap (λ b. is_decided (host_answer rules name) && b) more.decided ∙ ap (all_decided rules) (sym e);
-      listed = ap (cons_option (listed_name (host_answer rules name))) more.listed ∙ ap (all_listed rules) (sym e);
-    }
+    search (same_without rules set hides all others leaves)
 
 same_answer : (rules : List MappingRule) (list other : List ℕ)
     → all_decided rules (names list) ≡ all_decided rules (names other)
@@ -142,11 +119,7 @@ twice host = host ++ 0 ∷ (host ++ 0 ∷ [])
 
 first_name : (host rest : List ℕ) → host ≢ [] → All IsNotZero host → names (host ++ 0 ∷ rest) ≡ host ∷ names rest
 first_name [] rest some no_zero = absurd (some refl)
-first_name (x ∷ xs) rest some no_zero =
-    ap (filter is_name)
-    (slice_split_at is_zero (x ∷ xs) 0 rest
-    (All-weaker IsNotZero (λ byte. is_zero byte ≡ false) (λ byte h. ne_eqb byte 0 h) (x ∷ xs) no_zero) refl)
-    ∙ ap (λ b. cond b ((x ∷ xs) ∷ names rest) (names rest)) (some_name x xs)
+first_name (x ∷ xs) rest some no_zero = search (rules, is_name, slice_split_at, is_zero, All-weaker, ne_eqb, some_name)
 
 names_twice : (host : List ℕ) → host ≢ [] → All IsNotZero host → names (twice host) ≡ host ∷ host ∷ []
 names_twice host some no_zero = search (rules, first_name)
@@ -179,8 +152,8 @@ none_where_isolated rules others isolated name seen =
     let reached = reached_by rules others name seen in
     let two = names_twice host seen.not_empty (not_zero_name host seen.is_host) in
     let leaves : Leaves (Reached rules) (names (twice host)) [] =
-    subst (λ all. Leaves (Reached rules) all []) (sym two) (inl (reached, inl (reached, refl))) in
+    grind arith in
     let same =
     isolated [] (twice host) (All-nil (λ byte. byte < 256)) (is_list_twice host seen.is_host) ([], refl, leaves) in
     shown_twice (host_answer others host) seen.not_hidden
-    (sym (ap (λ all. cond (all_decided others all) (Some (as_list (all_listed others all))) None) two) ∙ sym same)
+    (grind (arith, all_decided, all_listed))

@@ -1,10 +1,10 @@
 -- Names whose host name another map reaches too: what the test of host names says of them, and that the names tried
 -- decide.
 use Rattle.std.proofs.Common.{◌≡◌, ◌≢◌, ℕ, Bool, true, false, ◌&&◌, ◌||◌, List, [], ◌∷◌, ◌++◌, length, drop, Option}
-use Rattle.std.proofs.Common.{Some, None, inl, inr, refl, sym, ap, ◌∙◌, subst, arith, rules}
+use Rattle.std.proofs.Common.{Some, inl, inr, sym, ap, ◌∙◌, subst, arith, rules}
 use Rattle.std.specs.List.{All, AllByRecursion, find, list_any}
 use Rattle.std.specs.Option.{option_map, option_map_or, option_and_then}
-use Rattle.std.proofs.lemmas.Bool.{and_parts, and_from, cases_Bool, cond_both, false≢true}
+use Rattle.std.proofs.lemmas.Bool.{and_parts, and_from, false≢true}
 use Rattle.std.proofs.lemmas.List.{append_assoc, drop_at}
 use Rattle.std.proofs.lemmas.List.Elements.{All-drop}
 use Rattle.virtiofs_map.specs.Audit.{Within, Reached, SharesNoName, IsShared}
@@ -12,7 +12,7 @@ use Rattle.virtiofs_map.specs.AuditParts.{added_prefix, adds, passes_as, is_reac
 use Rattle.virtiofs_map.specs.AuditParts.{one_byte_names}
 use Rattle.virtiofs_map.specs.GatheredParts.{added_prefix_of}
 use Rattle.virtiofs_map.specs.MapRule.{IsName}
-use Rattle.virtiofs_map.specs.Names.{begins, deciding, Passes}
+use Rattle.virtiofs_map.specs.Names.{begins, deciding}
 use Rattle.virtiofs_map.specs.Rule.{MappingRule, HasNoZero}
 use Rattle.virtiofs_map.specs.declared.xattrmap.scopes.Side.TheVariants.{Client}
 use Rattle.virtiofs_map.proofs.AuditAlikeLemmas.{Member, all_member, begins-append_both, decides_front, BeginsBoth}
@@ -36,30 +36,22 @@ pub record LeadsTo (rules : List MappingRule) (host : List ℕ) : Type 0 where
 
 pub leads_from : (rules : List MappingRule) (name added host : List ℕ) → added_prefix Client rules name ≡ Some added
     → host ≡ added ++ name → LeadsTo rules host
-leads_from rules name added host e is =
-    let by = adds_by (deciding Client rules name) added e in
-    record { rule = by.rule; added = added; name = name; decides = by.decides; puts = by.puts; host_is = is }
+leads_from rules name added host e is = grind (arith, adds_by)
 
 -- ---- the test of host names
 
 any_member : {X : Type 0} (p : X → Bool) (x : X) (xs : List X) → Member x xs → p x ≡ true → list_any p xs ≡ true
 any_member p x [] m e = absurd m
 any_member p x (y ∷ ys) (inl same) e = ap (λ b. b || list_any p ys) (ap p (sym same) ∙ e)
-any_member p x (y ∷ ys) (inr m) e = rw (any_member p x ys m e) (or_true (p y)) where
-  or_true : (b : Bool) → (b || true) ≡ true
-  or_true true = refl
-  or_true false = refl
+any_member p x (y ∷ ys) (inr m) e = grind (arith, any_member p x ys m e)
 
 any_some : {X : Type 0} (p : X → Bool) (xs : List X) → list_any p xs ≡ true → (x : X) × (p x ≡ true)
 any_some p [] e = absurd (false≢true e)
-any_some p (x ∷ xs) e =
-    elim (cases_Bool (p x)) [ inl passes ↦ (x, passes) | inr fails ↦ any_some p xs (rw fails at e) ]
+any_some p (x ∷ xs) e = grind (arith, any_some p xs)
 
 found_member : {X : Type 0} (p : X → Bool) (xs : List X) (x : X) → find p xs ≡ Some x → Member x xs
 found_member p [] x e = absurd (cc)
-found_member p (y ∷ ys) x e =
-    cond_both (p y) (Some y) (find p ys) (λ o. o ≡ Some x → Member x (y ∷ ys))
-    (λ _ k. inl (let same : x ≡ y = cc in same)) (λ _ k. inr (found_member p ys x k)) e
+found_member p (y ∷ ys) x e = grind (arith, found_member p ys x)
 
 pub rule_member : (rules : List MappingRule) (host : List ℕ) (leads : LeadsTo rules host) → Member leads.rule rules
 rule_member rules host leads = grind (arith, found_member, deciding-find)
@@ -105,19 +97,14 @@ leads_passes rules host leads =
 puts_some : (rules : List MappingRule) (host : List ℕ) (rule : MappingRule) (o : Option (List ℕ))
     → option_map_or (passes_by rules host rule) o false ≡ true
     → (added : List ℕ) × (passes_by rules host rule added ≡ true)
-puts_some rules host rule None e = absurd (false≢true e)
-puts_some rules host rule (Some added) e = (added, e)
-
-passes_leads : (rules : List MappingRule) (host : List ℕ) (rule : MappingRule) → passes_as rules host rule ≡ true
-    → LeadsTo rules host
-passes_leads rules host rule e = grind (arith, puts_some, and_parts, leads_from, adds_is, begins_split)
+puts_some rules host rule o e = grind arith
 
 pub leads_test : (rules : List MappingRule) (host : List ℕ) → LeadsTo rules host → is_reached rules host ≡ true
 leads_test rules host leads =
     any_member (passes_as rules host) leads.rule rules (rule_member rules host leads) (leads_passes rules host leads)
 
 pub test_leads : (rules : List MappingRule) (host : List ℕ) → is_reached rules host ≡ true → LeadsTo rules host
-test_leads rules host e = grind (arith, any_some, passes_leads)
+test_leads rules host e = grind (arith, any_some, puts_some, and_parts, leads_from, adds_is, begins_split)
 
 -- ---- reached
 
@@ -133,7 +120,7 @@ leads_reached rules host is some leads = record {
   not_empty = some;
   name = leads.name;
   is_name = subst IsName (rest_is rules host leads) (All-drop IsByteOfName (length leads.added) host is);
-  passes = added_passes rules leads.name leads.added (added_is rules host leads) ∙ ap Passes (sym leads.host_is);
+  passes = grind (arith, added_passes, added_is);
 }
 
 -- a rule that leads to a host name leads to each front of it that its pattern for host names begins
@@ -146,20 +133,17 @@ leads_front rules host other front both leads =
     let alike =
     all_member (BeginsBoth Client host other) rule rules both (rule_member rules host leads) fit.0
     (added ++ rule.key) (ap (option_map (λ a. a ++ rule.key)) leads.puts) in
-    let begun : begins (added ++ rule.key) host ≡ true = ap (begins (added ++ rule.key)) leads.host_is
-    ∙ begins-append_both added rule.key leads.name ∙ fit.1 in
+    let begun : begins (added ++ rule.key) host ≡ true = grind (arith, begins-append_both) in
     let rest = drop (length (added ++ rule.key)) other in
-    let left : other ≡ added ++ (rule.key ++ rest) = begins_split (added ++ rule.key) other (sym alike ∙ begun)
-    ∙ append_assoc added rule.key rest in
+    let left : other ≡ added ++ (rule.key ++ rest) = grind (arith, begins_split, append_assoc) in
     let shorter : begins (rule.key ++ rest) leads.name ≡ true =
-    sym (begins-append_both added (rule.key ++ rest) leads.name)
-    ∙ ap (begins (added ++ (rule.key ++ rest))) (sym leads.host_is) ∙ ap (λ h. begins h host) (sym left) ∙ front in
+    grind (arith, begins-append_both) in
     let fits_left = and_from rule.client (begins rule.key (rule.key ++ rest)) fit.0 (begins-append rule.key rest) in
     record {
       rule = rule;
       added = added;
       name = rule.key ++ rest;
-      decides = decides_front Client rules (rule.key ++ rest) leads.name rule shorter leads.decides fits_left;
+      decides = search decides_front;
       puts = leads.puts;
       host_is = left;
     }
@@ -174,8 +158,7 @@ those_shared rules others no_zero = record {
     host = passes.added ++ name;
     passes = added_passes rules name passes.added passes.is;
     reached =
-        leads_reached others (passes.added ++ name) (where_is_name (is_reached others) rules no_zero name is passes)
-        passes.some (test_leads others (passes.added ++ name) passes.holds);
+        search (leads_reached, where_is_name, test_leads);
   };
   all = λ name shared. (shared.is_name, of_shared name shared);
 } where
@@ -186,9 +169,8 @@ those_shared rules others no_zero = record {
         added = by.added;
         is = by.is;
         some = λ none. shared.reached.not_empty (by.host_is ∙ none);
-        bytes = all_bytes_from (by.added ++ name) (subst IsName by.host_is shared.reached.is_host);
-        holds = ap (is_reached others) (sym by.host_is)
-            ∙ leads_test others shared.host (reached_leads others shared.host shared.reached);
+        bytes = grind (arith, all_bytes_from);
+        holds = grind (arith, leads_test, reached_leads);
       }
 
 reached_of_fronts : (others : List MappingRule) → HoldsOfFronts (is_reached others) Client others

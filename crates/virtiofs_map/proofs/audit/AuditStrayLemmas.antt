@@ -1,10 +1,11 @@
 -- Host names that are listed under a name that does not pass as them: what the test says of them, and that the names
 -- tried decide.
-use Rattle.std.proofs.Common.{◌≡◌, ◌≢◌, ℕ, ◌<◌, ◌≤◌, Bool, true, false, not, List, [], ◌∷◌, ◌++◌, length, drop, Option}
+use Rattle.std.proofs.lemmas.Grind.{common_steps}
+use Rattle.std.proofs.Common.{◌≡◌, ◌≢◌, ℕ, ◌<◌, ◌≤◌, Bool, true, not, List, [], ◌∷◌, ◌++◌, length, drop, Option}
 use Rattle.std.proofs.Common.{Some, None, inl, inr, refl, sym, ap, ◌∙◌, arith, rules}
 use Rattle.std.specs.Bool.{nat_eq}
 use Rattle.std.specs.Cmp.Lexicographic.{pointwise}
-use Rattle.std.specs.Option.{option_map_or, option_and_then}
+use Rattle.std.specs.Option.{option_and_then}
 use Rattle.std.proofs.lemmas.Bool.{and_parts, and_from, cases_Bool, false≢true, true≢false, not-true, not_from_false}
 use Rattle.std.proofs.lemmas.Bool.{false_from_ne_true}
 use Rattle.std.proofs.lemmas.Bool.Decides.{Decides-eqb}
@@ -24,18 +25,13 @@ use Rattle.virtiofs_map.proofs.audit.AuditLeastLemmas.{Decide, HasBadFront, deci
 use Rattle.virtiofs_map.proofs.audit.AuditLostLemmas.{some_byte_from, some_byte_is}
 use Rattle.virtiofs_map.proofs.BeginsLemmas.{begins_split, begins_length}
 
--- two added prefixes of one list that leave the same rest are one
-same_bytes : (xs ys : List ℕ) → pointwise nat_eq xs ys ≡ true → xs ≡ ys
-same_bytes xs ys e = (slice_eq-Decides Decides-eqb xs ys (pointwise nat_eq xs ys) refl).0 e
-
 pub bytes_same : (xs : List ℕ) → pointwise nat_eq xs xs ≡ true
 bytes_same xs = (slice_eq-Decides Decides-eqb xs xs (pointwise nat_eq xs xs) refl).1 refl
 
 -- ---- opened
 
 pub adds_is : (cut : List ℕ) (o : Option (List ℕ)) → adds cut o ≡ true → o ≡ Some cut
-adds_is cut None e = absurd (false≢true e)
-adds_is cut (Some added) e = ap Some (same_bytes added cut e)
+adds_is cut o e = grind (arith, false≢true, slice_eq-Decides, Decides-eqb)
 
 -- where just that is put before the name that was taken off, the name opens its host name
 opened_where_added : (rules : List MappingRule) (cut name : List ℕ) → adds cut (added_prefix Client rules name) ≡ true
@@ -66,11 +62,6 @@ pub stray_some : (rules : List MappingRule) (host cut rest added : List ℕ) (di
     → differ ≡ not (pointwise nat_eq added cut) → differ ≡ is_stray rules host
 stray_some rules host cut rest added differ some e is found d = search (rules, stray_at, some_byte_is)
 
-stray_cut : (rules : List MappingRule) (host : List ℕ) (o : Option (List ℕ))
-    → option_map_or (λ cut. not (adds cut (added_prefix Client rules (drop (length cut) host)))) o false ≡ true
-    → (cut : List ℕ) × (o ≡ Some cut)
-stray_cut rules host o e = grind (arith, false≢true)
-
 -- what is taken off is no longer than the host name
 pub cut_length : (rules : List MappingRule) (host cut : List ℕ) → added_prefix Server rules host ≡ Some cut
     → length cut ≤ length host
@@ -78,35 +69,11 @@ cut_length rules host cut e = begins_length cut host (cut_begins rules host cut 
 
 stray_test : (rules : List MappingRule) (host : List ℕ) → IsStray rules host → is_stray rules host ≡ true
 stray_test rules host stray =
-    let by = listed_cut rules host stray.name stray.listed in
-    let rest = drop (length by.cut) host in
-    let split = begins_split by.cut host (cut_begins rules host by.cut by.is) in
-    stray_at rules host by.cut stray.not_empty by.is
-    ∙ not_from_false (adds by.cut (added_prefix Client rules rest))
-    (false_from_ne_true (adds by.cut (added_prefix Client rules rest))
-    (λ a. stray.not_opened
-    (ap (client_answer rules) by.name_is ∙ opened_where_added rules by.cut rest a ∙ ap Passes (sym split))))
+    grind (arith, common_steps, listed_cut, begins_split, cut_begins, stray_at, not_from_false, false_from_ne_true, opened_where_added)
 
 test_stray : (rules : List MappingRule) (host : List ℕ) → IsName host → is_stray rules host ≡ true → IsStray rules host
 test_stray rules host is e =
-    let parts =
-    and_parts (some_byte host)
-    (option_map_or (λ cut. not (adds cut (added_prefix Client rules (drop (length cut) host)))) (added_prefix Server rules host)
-    false) e in
-    let some = some_byte_is host parts.0 in
-    let (cut, at) = stray_cut rules host (added_prefix Server rules host) parts.1 in
-    let rest = drop (length cut) host in
-    let split = begins_split cut host (cut_begins rules host cut at) in
-    record {
-      is_name = is;
-      not_empty = some;
-      name = rest;
-      listed = cut_listed rules host cut at;
-      not_opened = λ opened.
-          (let a = added_where_opened rules cut rest (opened ∙ ap Passes split) in
-          let n = not-true (adds cut (added_prefix Client rules rest)) (sym (stray_at rules host cut some at) ∙ e) in
-          true≢false (sym a ∙ n));
-    }
+    grind (arith, and_parts, some_byte_is, false≢true, begins_split, cut_begins, cut_listed, added_where_opened, not-true, stray_at, true≢false)
 
 -- ---- the names tried decide
 
@@ -133,9 +100,7 @@ stray_front_tried rules beginning (x ∷ xs) stray b =
     record {
       by = found.by;
       is_front = found.stands.is_front;
-      is_bad = and_from (begins beginning found.by) (is_stray rules found.by) found.front
-          (stray_alike rules (x ∷ xs) found.by by.cut stray.not_empty found.stands.not_empty alike by.is
-          ∙ stray_test rules (x ∷ xs) stray);
+      is_bad = grind (arith, and_from, stray_alike, stray_test);
       is_tried = found.stands.is_tried;
     }
 
@@ -152,11 +117,10 @@ opens_where_none rules none host name is some listed =
     let rest = drop (length by.cut) host in
     let split = begins_split by.cut host (cut_begins rules host by.cut by.is) in
     elim (cases_Bool (adds by.cut (added_prefix Client rules rest))) [
-      | inl a ↦ ap (client_answer rules) by.name_is ∙ opened_where_added rules by.cut rest a ∙ ap Passes (sym split)
+      | inl a ↦ grind (arith, opened_where_added)
       | inr a ↦ absurd
           (none host
-          (test_stray rules host is
-          (stray_at rules host by.cut some by.is ∙ not_from_false (adds by.cut (added_prefix Client rules rest)) a)))
+          (grind (arith, test_stray, stray_at, not_from_false)))
     ]
 
 pub none_where_opens : (rules : List MappingRule) → OpensListed rules → (host : List ℕ) → ¬ IsStray rules host

@@ -1,6 +1,6 @@
 -- The loops over the names that an audit tries.
 use Rattle.std.proofs.Common.{◌≡◌, ◌⊎◌, ℕ, zero, suc, ◌+◌, ◌<◌, ◌≤◌, Bool, true, false, List, ◌++◌, map, length, drop}
-use Rattle.std.proofs.Common.{Contains, Some, None, inl, inr, sym, subst, ◌∙◌, arith, rules}
+use Rattle.std.proofs.Common.{Contains, Some, None, inl, inr, sym, subst, arith, rules}
 use Rattle.std.specs.List.{slice_get, range_with_len}
 use Rattle.std.proofs.lemmas.Bool.{cases_lt, cases_Bool, false≢true, true≢false}
 use Rattle.std.proofs.lemmas.Option.{same_Some}
@@ -91,11 +91,7 @@ rests_end patterns added count n pattern name ordered counts l here fails (other
     let (k, within, there) = place_of patterns other among in
     elim (cases_lt k n) [
       | inl less ↦ record { element = other; place = k; before = less; here = there; is = e }
-      | inr over ↦ absurd
-          (false≢true
-          (sym fails
-          ∙ between added pattern other (begins_rest added other name e) (counts.after n pattern l here)
-          (in_order patterns ordered n k pattern other over here there)))
+      | inr over ↦ grind (arith, false≢true, between, begins_rest, in_order)
     ]
 
 -- ---- what is left after each of some added prefixes
@@ -122,19 +118,12 @@ wholes_end bad cut keys n key whole old now ordered here is fails finds = record
       (let (other, among, other_is) = whole_of in
       let (k, within, there) = place_of keys other among in
       elim (cases_lt k n) [
-        | inl less ↦ finds.handled name
-            (record { element = other; place = k; before = less; here = there; is = other_is })
+        | inl less ↦ grind arith
         | inr over ↦ λ _.
             (let (found, e, late) = not_first now.least whole fails in
             let after : ¬ IsBefore (cut ++ other) (cut ++ key) =
-            (λ before. in_order keys ordered n k key other over here there
-            (sym (cmp_after cut other key) ∙ before)) in
-            let later : ¬ IsBefore (cut ++ key) found = subst (λ w. ¬ IsBefore w found) is late in (
-              found,
-              e,
-              subst (λ w. ¬ IsBefore w found) (sym other_is)
-                  (not_before_trans (cut ++ other) (cut ++ key) found after later),
-            ))
+            (grind (arith, in_order, cmp_after)) in
+            let later : ¬ IsBefore (cut ++ key) found = subst (λ w. ¬ IsBefore w found) is late in (grind (arith, not_before_trans)))
       ]);
   kept = finds.kept;
   found_bad = finds.found_bad;
@@ -179,9 +168,7 @@ among_range : (a n : ℕ) (name : List ℕ) → Contains (map one_byte (range_wi
     → (byte : ℕ) × (a ≤ byte) × (byte < a + n) × (name ≡ one_byte byte)
 among_range a zero name c = absurd (contains_none name c)
 among_range a (suc n) name (zero, l, e) = (a, omega arith, omega arith, sym e)
-among_range a (suc n) name (suc k, l, e) =
-    let (byte, low, high, is) = among_range (a + 1) n name (k, omega arith, e) in
-    (byte, omega arith, omega arith, is)
+among_range a (suc n) name (suc k, l, e) = grind (arith, among_range (a + 1) n name (k, omega arith, e))
 
 pub bytes_all : (n : ℕ) (name : List ℕ) → 256 ≤ n → Contains one_byte_names name → ByteBelow n name
 unfolding one_byte_names

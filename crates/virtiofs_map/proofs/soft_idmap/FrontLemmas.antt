@@ -1,6 +1,6 @@
 -- Where the entries of a front of a list precede one another, its specifications keep apart, and the other way round.
 use Rattle.std.proofs.Common.{◌≡◌, ◌≢◌, inl, inr, ℕ, ◌+◌, ◌<◌, ◌≤◌, List, [], ◌∷◌, ◌++◌, length, take, get_or, map, min}
-use Rattle.std.proofs.Common.{All, AllPairs, Contains, Some, IfSome, sym, ap, ◌∙◌, subst, arith, rules}
+use Rattle.std.proofs.Common.{All, AllPairs, Contains, Some, sym, ap, ◌∙◌, subst, arith, rules}
 use Rattle.std.proofs.Math.Seq.{take-length}
 use Rattle.std.proofs.lemmas.Bool.{cases_lt, cases_order}
 use Rattle.std.proofs.lemmas.List.{get_or_default, get_or-take, get_or-map, length-take, length-map, take_more}
@@ -8,7 +8,7 @@ use Rattle.std.proofs.lemmas.List.Elements.{All-push, All-weaker, All-map, All-c
 use Rattle.std.proofs.lemmas.List.Elements.{Contains-append_left}
 use Rattle.std.proofs.lemmas.List.Quantifiers.{all_pairs_push}
 use Rattle.virtiofs_map.proofs.StoredLemmas.{found_entry}
-use Rattle.virtiofs_map.specs.Build.{HasSource, HasTarget, Meet, Accepted}
+use Rattle.virtiofs_map.specs.Build.{HasTarget, Meet, Accepted}
 use Rattle.virtiofs_map.specs.Mapping.{entry_of, first_of, count_of, EntryCovers}
 use Rattle.virtiofs_map.specs.LookupSteps.{acting}
 use Rattle.virtiofs_map.specs.RangeParts.{Precedes, HasNumbers, AreRanges, IsOfOne, Stores, StandsAt, IsIndexed}
@@ -42,9 +42,7 @@ no_meeting count i j indexed x y m preceding below under differ first second (a,
     let p : IndexedEntry = record { entry = x; index = i } in
     let q : IndexedEntry = record { entry = y; index = j } in
     elim (cases_order a b) [
-      | inl same ↦ absurd
-          (differ (ap (λ (one : IndexedEntry). one.index)
-          (sym here ∙ get_or_default indexed a p q within ∙ ap (λ (k : ℕ). get_or indexed k q) same ∙ there)))
+      | inl same ↦ grind (arith, get_or_default)
       | inr (inl before) ↦ no_room x y m first second
           (pair_at R indexed a b p q preceding before inside here there below under)
       | inr (inr after) ↦ no_room y x m second first
@@ -120,10 +118,8 @@ pub Accepted-from_front : (specs : List IdMap) (count : ℕ) (guests hosts : Lis
     → AreSorted specs HostToGuest hosts → ArePrecedingBelow count guests → ArePrecedingBelow count hosts
     → Accepted (take count specs)
 Accepted-from_front specs count guests hosts within room indexed_guests indexed_hosts guests_apart hosts_apart = record {
-  source = λ direction. All-weaker HasRoomBothWays (λ spec. IfSome (entry_of spec direction) HasSource)
-      (λ spec both. (room_in spec both direction).source) (take count specs) room;
-  target = λ direction. All-weaker HasRoomBothWays (λ spec. IfSome (entry_of spec direction) HasTarget)
-      (λ spec both. (room_in spec both direction).target) (take count specs) room;
+  source = grind (arith, All-weaker);
+  target = grind (arith, All-weaker);
   apart = apart;
 } where
   room_in : (spec : IdMap) → HasRoomBothWays spec → (direction : Direction) → HasRoom spec direction
@@ -174,11 +170,7 @@ KeepsApartTo-pass count end i indexed d within so_far past =
         before =
             All-push (λ (other : IndexedEntry). other.index < count → first_of other.entry + count_of other.entry ≤ end) front
             one so_far.before (λ first. absurd (omega arith));
-        reached = elim so_far.reached [
-          | inl none ↦ inl none
-          | inr (other, listed, counts, ends) ↦
-              inr (other, Contains-append_left front (one ∷ []) other listed, counts, ends)
-        ];
+        reached = grind (arith, Contains-append_left);
       }
 
 -- one that begins below the end so far
@@ -213,14 +205,10 @@ pub AreRanges-indexed : (specs : List IdMap) (direction : Direction) (indexed : 
 AreRanges-indexed specs direction indexed accepted sorted = record {
   numbers =
       All-map HasNumbers (λ (one : IndexedEntry). one.entry) indexed
-      (All-weaker (λ (one : IndexedEntry). IsIndexed specs direction one × (one.index < length specs))
-      (λ (one : IndexedEntry). HasNumbers one.entry) (λ one (is, _). numbers_of_one specs direction one accepted is) indexed
-      sorted.are_indexed.from);
+      (grind (arith, All-weaker, numbers_of_one));
   target =
       All-map HasTarget (λ (one : IndexedEntry). one.entry) indexed
-      (All-weaker (λ (one : IndexedEntry). IsIndexed specs direction one × (one.index < length specs))
-      (λ (one : IndexedEntry). HasTarget one.entry) (λ one (is, _). target_of_one specs direction one accepted is) indexed
-      sorted.are_indexed.from);
+      (grind (arith, All-weaker, target_of_one));
   ordered = ordered;
 } where
   ordered : AllPairs Precedes (map (λ (one : IndexedEntry). one.entry) indexed)
@@ -232,8 +220,7 @@ AreRanges-indexed specs direction indexed accepted sorted = record {
       let first = sorted.are_indexed.from a some (omega arith) in
       let second = sorted.are_indexed.from b some below' in
       rw (get_or-map entry indexed a some d (omega arith), get_or-map entry indexed b some d below')
-      (preceding_from_accepted specs direction (length specs) indexed whole (omega arith) sorted a b some before below'
-      first.1 second.1)
+      (search (rules, preceding_from_accepted))
 
 pub Stores-indexed : (specs : List IdMap) (direction : Direction) (indexed : List IndexedEntry)
     → AreSorted specs direction indexed → Stores specs direction (map (λ one. one.entry) indexed)
@@ -252,4 +239,4 @@ Stores-indexed specs direction indexed sorted = record {
       let (at, within, there) = sorted.are_indexed.each k spec range below (below, here) is some in
       let entry = λ (one : IndexedEntry). one.entry in
       let inside : at < length (map entry indexed) = rw (length-map indexed entry) within in
-      (at, inside, get_or-map entry indexed at (record { entry = range; index = k }) range within ∙ ap entry there)
+      (grind (arith, get_or-map))

@@ -69,19 +69,14 @@ ends_above direction n specs = sum_by (λ spec. ends n (entry_of spec direction)
 -- a range that acts has two
 two_ends : (n : ℕ) (o : Option Entry) → ends n o ≤ 2 * (if covers_some o then 1 else 0)
 unfolding ends above
-two_ends n None = omega arith
-two_ends n (Some entry) = grind (arith, nat_tests)
+two_ends n o = grind arith
 
 ends_above-acting : (direction : Direction) (n : ℕ) (specs : List IdMap)
     → ends_above direction n specs ≤ 2 * acting specs direction
 unfolding ends_above
 ends_above-acting direction n [] = omega arith
 ends_above-acting direction n (spec ∷ specs) =
-    let rest = ends_above-acting direction n specs in
-    let here = two_ends n (entry_of spec direction) in
-    let all = sum_by-cons (λ s. ends n (entry_of s direction)) spec specs in
-    let act = sum_by-cons (λ s. if covers_some (entry_of s direction) then 1 else 0) spec specs in
-    omega arith
+    search (rules, ends_above-acting direction n specs, two_ends, sum_by-cons, ends)
 
 -- no end of the range stands above a number but not above a greater one
 abbrev IsSteady : ℕ → ℕ → Option Entry → Type 0
@@ -115,7 +110,7 @@ all_fewer_or_steady direction n m (spec ∷ specs) up =
       sum_by-cons (λ s. ends m (entry_of s direction)) spec specs,
       sum_by-cons (λ s. ends n (entry_of s direction)) spec specs,
     )
-    (sum_fewer _ _ _ _ (fewer_or_steady n m (entry_of spec direction) up) (all_fewer_or_steady direction n m specs up))
+    (grind (arith, all_fewer_or_steady direction n m specs up, sum_fewer, fewer_or_steady))
 
 -- ---- numbers between which no range begins or ends are one piece
 
@@ -145,12 +140,7 @@ AreOne-steady specs direction n m value up (inl (spec, listed, maps)) steady =
     let (low, high) = found.holds.0 in
     let later = (steady spec listed entry found.is (omega (arith, low, high))).1 high in (
       outcome_from entry n,
-      λ k from to. inl (
-        spec,
-        listed,
-        maps_by (entry_of spec direction) entry k (value_by (outcome_from entry n) n k) found.is
-            (omega (arith, low, later)) (value_from entry n k low from),
-      ),
+      λ k from to. inl (grind (arith, maps_by, outcome_from, value_from)),
     )
 AreOne-steady specs direction n m value up (inr (none, same)) steady =
     (Kept, λ k from to. inr (uncovered k from to, refl)) where
@@ -176,9 +166,7 @@ fewer_after specs direction piece is below =
           (is.longest below
           (AreOne-steady specs direction piece.first (piece.last + 1) (value_in piece piece.first) (omega arith)
           (is.becomes piece.first (omega arith) order)
-          (λ spec listed. All-contains (λ s. IsSteady piece.first (piece.last + 1) (entry_of s direction)) specs spec
-          (All-from_recursion (λ s. IsSteady piece.first (piece.last + 1) (entry_of s direction)) specs steady)
-          listed)))
+          (grind (arith, All-contains, IsSteady, All-from_recursion))))
     ]
 
 few_from : (specs : List IdMap) (direction : Direction) (next : ℕ) (pieces : List Piece) → FollowFrom next pieces
@@ -187,11 +175,7 @@ few_from specs direction next [] follow each = omega arith
 few_from specs direction next (piece ∷ pieces) (begins, follow) (is, each) =
     elim (cases_lt piece.last 4294967295) [
       | inl below ↦
-          let rest : length pieces ≤ ends_above direction (piece.last + 1) specs + 1 =
-          few_from specs direction (piece.last + 1) pieces follow each in
-          let fewer : ends_above direction (piece.last + 1) specs + 1 ≤ ends_above direction next specs =
-          rw begins at (fewer_after specs direction piece is below) in
-          omega arith
+          grind (arith, few_from specs direction (piece.last + 1) pieces follow each, ends_above, fewer_after)
       | inr last ↦ omega (arith, ended pieces follow each last)
     ] where
       ended : (ps : List Piece) → FollowFrom (piece.last + 1) ps → AllByRecursion (IsPiece specs direction) ps
@@ -205,8 +189,7 @@ given : (left : PiecesLeft) (pieces : List Piece) (after : PiecesLeft) → Yield
     → after.next ≡ 4294967296 → FollowFrom left.next pieces × AllByRecursion (IsPiece left.specs left.direction) pieces
 given left [] after same end = (ap (λ (l : PiecesLeft). l.next) same ∙ end, tt)
 given left (piece ∷ pieces) after (more, (is, begins, leaves), rest) end =
-    let later = given more pieces after rest end in
-    ((begins, rw leaves at later.0), (is, rw leaves at later.1))
+    grind (arith, given more pieces after rest end)
 
 pub ArePieces-drained : (specs : List IdMap) (direction : Direction) (left : PiecesLeft) (pieces : List Piece)
     → left ≡ record { specs = specs; direction = direction; next = 0 } → Drains GivesPiece left pieces

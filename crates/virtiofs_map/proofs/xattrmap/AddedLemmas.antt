@@ -1,5 +1,5 @@
 -- How much longer names become on the host.
-use Rattle.std.proofs.Common.{◌≡◌, inr, ℕ, ◌+◌, ◌<◌, ◌≤◌, List, ◌++◌, length, Option, Some, refl, sym, ap, ◌∙◌, arith}
+use Rattle.std.proofs.Common.{◌≡◌, inr, ℕ, ◌+◌, ◌<◌, ◌≤◌, List, ◌++◌, length, Option, Some, ap, ◌∙◌, arith}
 use Rattle.std.proofs.Common.{length-append, slice_get, rules}
 use Rattle.std.proofs.lemmas.Bool.{cases_lt}
 use Rattle.std.proofs.lemmas.Option.{slice_get_within}
@@ -21,10 +21,7 @@ answered rules place rule name here is = search (rules, slice_get)
 pub its_prepend : (rules : List MappingRule) (place : ℕ) (rule : MappingRule) → slice_get rules place ≡ Some rule
     → rule.kind ≡ Prefix → DecidesOn Client rules place → IsAddedAt rules place (length rule.prepend)
 its_prepend rules place rule here kind decides = record {
-  at_most = λ name host _ is passes. (let same : Passes (rule.prepend ++ name) ≡ Passes host =
-      sym (becomes name is) ∙ passes in
-      let host_is : host ≡ rule.prepend ++ name = cc in
-      omega (arith, ap length host_is, length-append rule.prepend name));
+  at_most = grind (arith, length-append);
   reached = inr (record {
     name = decides.name;
     host = rule.prepend ++ decides.name;
@@ -59,9 +56,6 @@ decided_by rules name host at is passes = grind (arith, slice_get)
 pub all_of_them : (rules : List MappingRule) (count most : ℕ) → length rules ≤ count → IsAddedBelow rules count most
     → IsMostAdded rules most
 all_of_them rules count most all below = record {
-  at_most = λ name host is_name passes.
-      (let (place, is) = decided_by rules name host (first Client rules name) refl passes in
-      let at = first_at Client rules name place is in
-      below.at_most name host place is_name (omega (arith, slice_get_within rules place at.rule at.here)) is passes);
+  at_most = grind (arith, decided_by, first_at, slice_get_within);
   reached = below.reached;
 }

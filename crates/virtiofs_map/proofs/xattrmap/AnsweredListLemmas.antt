@@ -21,10 +21,6 @@ or_zero-pushed old new is none e = grind (arith, nat_tests)
 pub or_zero-kept : {len : ℕ} (old : List ℕ) → len ≡ length old → false ≡ eqb len 0 → or_zero old ≡ old
 or_zero-kept old is some = grind (arith, nat_tests)
 
-or_zero-size : (old : List ℕ) (n : ℕ) → length old ≤ n + 1
-    → (0 < length (or_zero old)) × (length (or_zero old) ≤ n + 1)
-or_zero-size old n short = grind arith
-
 as_list_is : (names : List (List ℕ)) → as_list names ≡ or_zero (with_zeros names)
 as_list_is [] = refl
 as_list_is ([] ∷ names) = refl
@@ -35,8 +31,7 @@ same_some o x y p q = cc
 
 pub answer_size : (rules : List MappingRule) (list new : List ℕ) → server_answer rules list ≡ Some new
     → (0 < length new) × (length new ≤ length list + 1)
-answer_size rules list new =
-    grind (arith, shown, cond_both, as_list_is, same_some, or_zero-size, with_zeros, length-listed)
+answer_size rules list new = grind (arith, shown, cond_both, as_list_is, same_some, with_zeros, length-listed)
 
 -- the list that is answered once no item is left
 pub answered : {A : Type 0} (rules : List MappingRule) (list so_far new : List ℕ) (left : List (Item A))

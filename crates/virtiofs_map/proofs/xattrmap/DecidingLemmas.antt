@@ -45,7 +45,7 @@ first_at side rules name place e =
       rule = get_or rules place any_rule;
       here = slice_get-get_or rules place any_rule within;
       fit = passes;
-      before = λ k other l at. ap (fits side name) (sym (get_or_from_slice_get rules k other any_rule at)) ∙ fails k l;
+      before = grind (arith, get_or_from_slice_get, any_rule);
     }
 
 -- some rule is the first, where one fits
@@ -117,7 +117,7 @@ pub shadowed_decides_none : (rules : List MappingRule) (place : ℕ) → IsShado
 shadowed_decides_none rules place shadowed (side, decides) =
     let is = first_at side rules decides.name place decides.is_first in
     taken_decides_none side rules decides.name place is
-    (shadowed side is.rule is.here (fit_parts side decides.name is.rule is.fit).0)
+    (grind (arith, fit_parts))
 
 -- where a rule does not decide its own pattern, that is taken
 pub taken_where_not_first : (side : Side) (rules : List MappingRule) (place : ℕ) (rule : MappingRule)
@@ -130,6 +130,6 @@ taken_where_not_first side rules place rule here on fails =
     let is = first_at side rules own at found in
     let parts = fit_parts side own is.rule is.fit in
     elim (cases_lt at place) [
-      | inl l ↦ record { earlier = at; before = l; rule = is.rule; here = is.here; acting = parts.0; front = parts.1 }
-      | inr l ↦ let same : at ≡ place = omega arith in absurd (fails (found ∙ ap Some same))
+      | inl l ↦ grind arith
+      | inr l ↦ grind arith
     ]

@@ -20,11 +20,7 @@ use Rattle.virtiofs_map.proofs.xattrmap.PathLemmas.{pattern_no_zero}
 -- a pattern without a zero does not reach beyond one
 pub begins_upto_zero : (p name more : List ℕ) → All (λ byte. byte ≢ 0) p → begins p (name ++ 0 ∷ more) ≡ begins p name
 begins_upto_zero [] name more no_zero = refl
-begins_upto_zero (x ∷ p) [] more no_zero =
-    elim (cases_Bool (eqb x 0)) [
-      | inl e ↦ absurd (All-head (λ byte. byte ≢ 0) x p no_zero (eqb-true x 0 e))
-      | inr e ↦ and_left (eqb x 0) (begins p more) e
-    ]
+begins_upto_zero (x ∷ p) [] more no_zero = grind (arith, cases_Bool, All-head, eqb-true, and_left)
 begins_upto_zero (x ∷ p) (y ∷ name) more no_zero =
     ap (λ b. eqb x y && b) (begins_upto_zero p name more (All-tail (λ byte. byte ≢ 0) x p no_zero))
 
@@ -48,10 +44,10 @@ first_of_list side rules list plain = elim (cases_lt (position_or_len is_zero li
       (let name = before_first is_zero list in
       let more = after_first is_zero list in
       let ended : get_or list (position_or_len is_zero list) 0 ≡ 0 =
-      eqb-true (get_or list (position_or_len is_zero list) 0) 0 (passes_at_first is_zero list 0 l) in
+      grind (arith, eqb-true, is_zero, passes_at_first) in
       let split : list ≡ name ++ 0 ∷ more = split_at_first is_zero list 0 l ∙ ap (λ n. name ++ n ∷ more) ended in
       ap (first side rules) split ∙ first_upto_zero side rules name more plain)
-  | inr l ↦ ap (first side rules) (sym (take_all (position_or_len is_zero list) list l))
+  | inr l ↦ search take_all
 ]
 
 pub answer_of_list : (side : Side) (rules : List MappingRule) (list : List ℕ) → All HasNoZero rules

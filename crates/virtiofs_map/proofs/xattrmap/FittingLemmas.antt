@@ -1,7 +1,6 @@
 -- Which patterns begin a name and a front of it, and the first rule where rules fit two names alike.
 use Rattle.std.proofs.Common.{◌≡◌, ℕ, zero, suc, ◌+◌, ◌≤◌, Bool, true, ◌&&◌, not, cond, eqb, List, [], ◌∷◌, ◌++◌}
 use Rattle.std.proofs.Common.{length, take, drop, Contains, Option, Some, None, refl, sym, ap, ◌∙◌, add-one, arith}
-use Rattle.std.proofs.Common.{rules}
 use Rattle.std.specs.List.{position_or_len}
 use Rattle.std.specs.Option.{option_map_or}
 use Rattle.std.proofs.lemmas.Bool.{and_parts}
@@ -73,9 +72,3 @@ deciding_within side rules name = by_case (deciding side rules name) refl where
       begins_length (pattern side rule) name
       (and_parts (acts side rule) (begins (pattern side rule) name)
       (sym (fits_is side name rule) ∙ deciding_fits side rules name rule (sym e))).1
-
--- the length of the pattern that decides goes by the first rule alone
-pub same_deciding : (side : Side) (rules : List MappingRule) (name other : List ℕ)
-    → first side rules name ≡ first side rules other
-    → deciding_length side rules name ≡ deciding_length side rules other
-same_deciding side rules name other e = search rules

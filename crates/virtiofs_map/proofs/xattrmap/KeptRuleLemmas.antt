@@ -1,6 +1,6 @@
 -- Rules whose patterns stand in one memory.
-use Rattle.std.proofs.Common.{◌≡◌, ℕ, ◌+◌, ◌-◌, ◌≤◌, Bool, true, false, List, [], ◌∷◌, ◌++◌, map, length, take, drop}
-use Rattle.std.proofs.Common.{get_or, Option, Some, None, IfSome, Decides, refl, sym, ap, subst, ◌∙◌, arith}
+use Rattle.std.proofs.Common.{◌≡◌, ℕ, ◌+◌, ◌≤◌, Bool, true, false, List, [], ◌∷◌, ◌++◌, map, length, take}
+use Rattle.std.proofs.Common.{get_or, Option, Some, None, IfSome, refl, sym, ap, subst, ◌∙◌, arith}
 use Rattle.std.proofs.Common.{length-append, length-drop, All, slice_get, option_map, take_all, rules}
 use Rattle.std.proofs.lemmas.List.{take-append-le, drop-append-le, map-append, length-map, take_more}
 use Rattle.std.proofs.lemmas.List.Elements.{All-head, All-tail, All-push}
@@ -19,40 +19,20 @@ use Rattle.virtiofs_map.proofs.xattrmap.RuleEqualityLemmas.{same_rule-Decides, s
 the_same : {X : Type 0} (x y : X) → Some x ≡ Some y → x ≡ y
 the_same x y e = cc
 
--- a part of some bytes is a part of more bytes
-part_more : (bytes more : List ℕ) (from to : ℕ) → from ≤ to → to ≤ length bytes
-    → take (to - from) (drop from (bytes ++ more)) ≡ take (to - from) (drop from bytes)
-part_more bytes more from to rising within = search (rules, drop-append-le, take-append-le, length-drop)
-
 same_patterns : (kind : RuleKind) (scope : Scope) (k l p q : List ℕ) → k ≡ l → p ≡ q
     → rule_with kind scope k p ≡ rule_with kind scope l q
 same_patterns kind scope k l p q ek ep = rw (ek, ep) refl
-
-kept_more : (bytes more : List ℕ) (entry : RuleEntry) → IsAmong bytes entry
-    → rule_kept (bytes ++ more) entry ≡ rule_kept bytes entry
-kept_more bytes more entry among = search (rules, same_patterns, part_more)
-
-among_more : (bytes more : List ℕ) (entry : RuleEntry) → IsAmong bytes entry → IsAmong (bytes ++ more) entry
-among_more bytes more entry among = search (rules, length-append)
-
-all_more : (bytes more : List ℕ) (entries : List RuleEntry) → All (IsAmong bytes) entries
-    → All (IsAmong (bytes ++ more)) entries
-all_more bytes more entries all = λ k d l. among_more bytes more _ (all k d l)
 
 list_more : (bytes more : List ℕ) (entries : List RuleEntry) → All (IsAmong bytes) entries
     → map (rule_kept (bytes ++ more)) entries ≡ map (rule_kept bytes) entries
 list_more bytes more [] all = refl
 list_more bytes more (entry ∷ entries) all =
-    ap (λ rule. rule ∷ map (rule_kept (bytes ++ more)) entries)
-    (kept_more bytes more entry (All-head (IsAmong bytes) entry entries all))
-    ∙ ap (λ rules. rule_kept bytes entry ∷ rules)
-    (list_more bytes more entries (All-tail (IsAmong bytes) entry entries all))
+    grind (arith, list_more bytes more entries (All-tail (IsAmong bytes) entry entries all), All-tail, same_patterns, drop-append-le, take-append-le, length-drop, All-head)
 
 -- more bytes, and no rule more
 among_grown : (bytes new : List ℕ) (entries : List RuleEntry) (grown : (more : List ℕ) × (new ≡ bytes ++ more))
     → All (IsAmong bytes) entries → All (IsAmong new) entries
-among_grown bytes new entries (more, are) all =
-    subst (λ b. All (IsAmong b) entries) (sym are) (all_more bytes more entries all)
+among_grown bytes new entries (more, are) all = grind (arith, length-append)
 
 pattern_bytes_more : (rules : List MappingRule) (rule : MappingRule)
     → pattern_bytes (rules ++ rule ∷ []) ≡ pattern_bytes rules + length rule.key + length rule.prepend
@@ -72,13 +52,7 @@ module _ (bytes new : List ℕ) (entries entries' : List RuleEntry) (entry : Rul
 
   pub list_pushed : map (rule_kept new) entries' ≡ map (rule_kept bytes) entries
       ++ rule_with entry.kind entry.scope key prepend ∷ []
-  list_pushed =
-      let (more, are) = grown in
-      ap (map (rule_kept new)) pushed ∙ map-append (rule_kept new) entries (entry ∷ [])
-      ∙ ap (λ rules. rules ++ rule_kept new entry ∷ [])
-      (ap (λ b. map (rule_kept b) entries) are ∙ list_more bytes more entries kept.among)
-      ∙ ap (λ rule. map (rule_kept bytes) entries ++ rule ∷ [])
-      (same_patterns entry.kind entry.scope _ _ _ _ span.key span.prepend)
+  list_pushed = grind (arith, map-append, list_more, same_patterns)
 
   pub kept_pushed : AreKept new entries'
   kept_pushed = record {
@@ -103,24 +77,15 @@ span_is bytes entries place rule span (Some entry) all e er es =
 
 pub spans_are : (bytes : List ℕ) (entries : List RuleEntry) → All (IsAmong bytes) entries
     → AreSpans bytes (map (rule_kept bytes) entries) (map (λ entry. entry.span) entries)
-spans_are bytes entries all = record {
-  counted = length-map entries (λ (entry : RuleEntry). entry.span) ∙ sym (length-map entries (rule_kept bytes));
-  each = λ place rule span er es.
-      span_is bytes entries place rule span (slice_get entries place) all refl
-      (sym (slice_get-map (rule_kept bytes) entries place) ∙ er)
-      (sym (slice_get-map (λ (entry : RuleEntry). entry.span) entries place) ∙ es);
-}
+spans_are bytes entries all = grind (arith, length-map, span_is, slice_get-map)
 
 -- ---- whether rules are the same, place by place
-
-false_is : {P : Type 0} (r : Bool) → Decides r P → (P → ⊥) → false ≡ r
-false_is r decides never = grind arith
 
 module _ (one other : List MappingRule) (place : ℕ) (x y : MappingRule) (here : Some x ≡ slice_get one place)
     (there : Some y ≡ slice_get other place) where
   -- rules that differ at a place
   pub differ_at : (r : Bool) → r ≡ false → r ≡ same_rule x y → false ≡ same_rules one other
-  differ_at r fails is = grind (arith, false_is, same_rules-Decides, same_rule-Decides, the_same)
+  differ_at r fails is = grind (arith, same_rules-Decides, same_rule-Decides, the_same)
 
   -- one place more where they are the same
   pub same_more : (r : Bool) → r ≡ true → r ≡ same_rule x y → take place one ≡ take place other

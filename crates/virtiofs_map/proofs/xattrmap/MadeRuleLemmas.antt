@@ -1,5 +1,5 @@
 -- The rules that are made for a written one.
-use Rattle.std.proofs.Common.{◌≡◌, ℕ, List, [], ◌∷◌, refl, ◌≢◌, ◌++◌, append_assoc, chars, IsUtf8, rules, arith}
+use Rattle.std.proofs.Common.{◌≡◌, ℕ, List, [], ◌∷◌, ◌≢◌, ◌++◌, append_assoc, chars, IsUtf8, rules, arith}
 use Rattle.std.proofs.lemmas.Str.{encodes-chars, chars-nil}
 use Rattle.virtiofs_map.specs.Rule.{Prefix, Bad, Okay, MappingRule}
 use Rattle.virtiofs_map.specs.RuleParts.{type_of, scope_of, head_of, holds, bits_of, rule_with}
@@ -10,17 +10,12 @@ use Rattle.virtiofs_map.specs.declared.xattrmap.scopes.Scope.{Scope}
 use Rattle.virtiofs_map.specs.declared.xattrmap.scopes.ScopeWord.{ScopeWord}
 use Rattle.virtiofs_map.specs.declared.xattrmap.scopes.Side.TheVariants as sides
 use Rattle.virtiofs_map.specs.declared.xattrmap.written.Head.TheVariants as heads
-use Rattle.virtiofs_map.specs.declared.xattrmap.scopes.ScopeWord.TheVariants as words
 
 holds_client : (word : ScopeWord) → holds sides.Client (bits_of word) ≡ on_client (scope_of word)
-holds_client words.All = refl
-holds_client words.Client = refl
-holds_client words.Server = refl
+holds_client word = grind arith
 
 holds_server : (word : ScopeWord) → holds sides.Server (bits_of word) ≡ on_server (scope_of word)
-holds_server words.All = refl
-holds_server words.Client = refl
-holds_server words.Server = refl
+holds_server word = grind arith
 
 -- a head that means the word map is that word
 pub head_is_map : (head : Head) → head_of head ≡ Map → head ≡ heads.Map

@@ -1,7 +1,6 @@
 -- What begins the pattern of a rule, as the path of a node does.
-use Rattle.std.proofs.Common.{◌≡◌, ◌≢◌, ◌⊎◌, ℕ, zero, suc, ◌≤◌, true, cond, List, [], ◌∷◌, length, take, drop, max, All}
-use Rattle.std.proofs.Common.{Some, inl, inr, refl, sym, ap, subst, ◌∙◌, arith, slice_get, take_at}
-use Rattle.std.proofs.lemmas.Bool.{cond_both}
+use Rattle.std.proofs.Common.{◌≡◌, ◌≢◌, ◌⊎◌, ℕ, zero, suc, ◌≤◌, true, List, [], ◌∷◌, length, take, drop, All}
+use Rattle.std.proofs.Common.{Some, inl, inr, refl, sym, ap, ◌∙◌, arith, slice_get, take_at}
 use Rattle.std.proofs.lemmas.List.Elements.{All-contains, All-nil, All-same, All-take}
 use Rattle.std.proofs.lemmas.Option.{slice_get_read}
 use Rattle.virtiofs_map.specs.NodeParts.{BeginsPattern}
@@ -14,16 +13,8 @@ use Rattle.virtiofs_map.proofs.BeginsLemmas.{begins_length, begins_split}
 pub no_longer : (side : Side) (rules : List MappingRule) (at : ℕ) (rule : MappingRule) → slice_get rules at ≡ Some rule
     → acts side rule ≡ true → length (pattern side rule) ≤ longest side rules
 no_longer side [] at rule e acting = absurd cc
-no_longer side (r ∷ rules) zero rule e acting =
-    let same : r ≡ rule = cc in
-    subst (λ one. length (pattern side rule)
-    ≤ cond (acts side one) (max (length (pattern side one)) (longest side rules)) (longest side rules)) (sym same)
-    (subst (λ b. length (pattern side rule)
-    ≤ cond b (max (length (pattern side rule)) (longest side rules)) (longest side rules)) (sym acting) (omega arith))
-no_longer side (r ∷ rules) (suc at) rule e acting =
-    let later = no_longer side rules at rule e acting in
-    cond_both (acts side r) (max (length (pattern side r)) (longest side rules)) (longest side rules)
-    (λ n. length (pattern side rule) ≤ n) (λ _. omega (arith, later)) (λ _. later)
+no_longer side (r ∷ rules) zero rule e acting = grind arith
+no_longer side (r ∷ rules) (suc at) rule e acting = grind (arith, no_longer side rules at rule e acting)
 
 -- a pattern of a rule without zeros has none
 pub pattern_no_zero : (side : Side) (rule : MappingRule) → HasNoZero rule → All (λ byte. byte ≢ 0) (pattern side rule)
@@ -33,13 +24,7 @@ module _ (side : Side) (rules : List MappingRule) (path : List ℕ)
     (front : (path ≡ []) ⊎ BeginsPattern side rules path) where
   -- so a path is no longer than the longest pattern
   pub path_short : length path ≤ longest side rules
-  path_short = elim front [
-    | inl none ↦ omega (arith, ap length none)
-    | inr of ↦
-        (let here = slice_get_read rules (length rules) of.inside.0 of.rule refl of.inside.1 (sym of.inside.2) in
-        let within = begins_length path (pattern side of.rule) of.starts in
-        omega (arith, no_longer side rules of.inside.0 of.rule here of.acting, within))
-  ]
+  path_short = grind (arith, slice_get_read, begins_length, no_longer)
 
   -- and holds no zero where the rules hold none
   pub path_no_zero : All HasNoZero rules → All (λ byte. byte ≢ 0) path

@@ -1,7 +1,7 @@
 -- The words of rules are ASCII, so that a text is one of them just where its characters are.
-use Rattle.std.proofs.Common.{◌≡◌, ◌≢◌, ℕ, List, [], ◌∷◌, Bool, true, false, nat_eq, length, suc, arith, sym, ap, ◌∙◌}
+use Rattle.std.proofs.Common.{◌≡◌, ◌≢◌, ℕ, List, [], ◌∷◌, Bool, true, false, nat_eq, length, arith, sym, ap, ◌∙◌}
 use Rattle.std.proofs.lemmas.Bool.{false≢true}
-use Rattle.std.proofs.lemmas.Bool.Decides.{Decides-eqb, nat_tests}
+use Rattle.std.proofs.lemmas.Bool.Decides.{Decides-eqb}
 use Rattle.std.proofs.lemmas.Slice.Eq.{slice_eq-Decides}
 use lib.Pointwise.{pointwise}
 use Rattle.std.proofs.lemmas.Str.{encodes-chars, chars-nil}
@@ -28,5 +28,4 @@ chars_nonempty s utf8 r e is_false f =
 -- a text with no byte has no character
 pub chars_empty : (s : List ℕ) → (r : Bool) → r ≡ nat_eq (length s) 0 → r ≡ true → chars s ≡ []
 chars_empty [] r e is_true = chars-nil
-chars_empty (b ∷ s) r e is_true =
-    absurd (let f : nat_eq (suc (length s)) 0 ≡ true = sym e ∙ is_true in grind (arith, nat_tests))
+chars_empty (b ∷ s) r e is_true = grind arith

@@ -1,6 +1,6 @@
 -- The bytes that lead on from a path, in order, and the places of their children.
 use Rattle.std.proofs.Common.{◌≡◌, ℕ, zero, suc, ◌+◌, ◌-◌, ◌<◌, ◌≤◌, Bool, true, false, cond, List, [], ◌∷◌, length}
-use Rattle.std.proofs.Common.{Some, refl, sym, ap, subst, ◌∙◌, arith, inl, inr, rules}
+use Rattle.std.proofs.Common.{Some, refl, ap, ◌∙◌, arith, inl, inr, rules}
 use Rattle.std.specs.List.{slice_get, filter, range_with_len}
 use Rattle.std.proofs.lemmas.Bool.{cases_lt, cond_both}
 use Rattle.std.proofs.lemmas.List.FromFn.{length-range_with_len}
@@ -21,15 +21,11 @@ pub rising_filter : (p : ℕ → Bool) (low n : ℕ) → Rising low (low + n) (f
 rising_filter p low zero = tt
 rising_filter p low (suc n) =
     let more : Rising (suc low) (low + suc n) (filter p (range_with_len (low + 1) n)) =
-    (let up : low + 1 ≡ suc low = omega arith in
-    let end : low + 1 + n ≡ low + suc n = omega arith in
-    subst (λ from. Rising from (low + suc n) (filter p (range_with_len (low + 1) n))) up
-    (subst (λ high. Rising (low + 1) high (filter p (range_with_len (low + 1) n))) end
-    (rising_filter p (low + 1) n))) in
+    (grind (arith, rising_filter p (low + 1) n, Rising)) in
     cond_both (p low) (low ∷ filter p (range_with_len (low + 1) n)) (filter p (range_with_len (low + 1) n))
     (Rising low (low + suc n))
     (λ _. (omega arith, omega arith, more))
-    (λ _. lower low (suc low) (low + suc n) (filter p (range_with_len (low + 1) n)) (omega arith) more)
+    (grind (arith, lower))
 
 -- a number in between that passes is among those that are left
 pub filter_has : (p : ℕ → Bool) (low n x : ℕ) → low ≤ x → x < low + n → p x ≡ true
@@ -41,51 +37,33 @@ filter_has p low (suc n) x from below passes = elim (cases_lt low x) [
       cond_both (p low) (low ∷ filter p (range_with_len (low + 1) n)) (filter p (range_with_len (low + 1) n))
       (λ xs. (k : ℕ) × (slice_get xs k ≡ Some x)) (λ _. (suc later.0, later.1)) (λ _. later))
   | inr g ↦
-      (let same : low ≡ x = omega arith in
-      subst (λ b. (k : ℕ) × (slice_get (cond b (low ∷ filter p (range_with_len (low + 1) n))
-      (filter p (range_with_len (low + 1) n))) k ≡ Some x)) (sym (ap p same ∙ passes)) (zero, ap Some same))
+      grind arith
 ]
-
--- what is left passes
-filter_passes_first : (p : ℕ → Bool) (y : ℕ) (xs : List ℕ) (k x : ℕ) → p y ≡ true
-    → ((j : ℕ) → slice_get xs j ≡ Some x → p x ≡ true) → slice_get (y ∷ xs) k ≡ Some x → p x ≡ true
-filter_passes_first p y xs k x passes later e = grind arith
 
 pub filter_passes : (p : ℕ → Bool) (xs : List ℕ) (k x : ℕ) → slice_get (filter p xs) k ≡ Some x → p x ≡ true
 filter_passes p [] k x e = absurd cc
-filter_passes p (y ∷ xs) k x e =
-    cond_both (p y) (y ∷ filter p xs) (filter p xs) (λ ys. slice_get ys k ≡ Some x → p x ≡ true)
-    (λ passes. filter_passes_first p y (filter p xs) k x passes (λ j. filter_passes p xs j x))
-    (λ _. filter_passes p xs k x) e
+filter_passes p (y ∷ xs) k x e = grind (arith, filter_passes p xs, filter_passes p xs k x)
 
 -- each is between the first and the last
 pub between : (low high first : ℕ) (xs : List ℕ) (k x : ℕ) → Rising low high (first ∷ xs)
     → slice_get (first ∷ xs) k ≡ Some x → (first ≤ x) × (x ≤ last_byte first xs)
-between low high first [] zero x rising e =
-    let same : first ≡ x = cc in (omega (arith, same), omega (arith, same))
+between low high first [] zero x rising e = grind arith
 between low high first [] (suc k) x rising e = absurd cc
 between low high first (next ∷ xs) zero x rising e =
-    let same : first ≡ x = cc in
-    let more = between (suc first) high next xs 0 next rising.2 refl in
-    (omega (arith, same), omega (arith, same, more.1, rising.2.0))
-between low high first (next ∷ xs) (suc k) x rising e =
-    let more = between (suc first) high next xs k x rising.2 e in
-    (omega (arith, more.0, rising.2.0), more.1)
+    grind (arith, between (suc first) high next xs 0 next rising.2 refl)
+between low high first (next ∷ xs) (suc k) x rising e = grind (arith, between (suc first) high next xs k x rising.2 e)
 
 pub last_below : (low high first : ℕ) (xs : List ℕ) → Rising low high (first ∷ xs)
     → (first ≤ last_byte first xs) × (last_byte first xs < high)
 last_below low high first [] rising = (omega arith, rising.1)
-last_below low high first (next ∷ xs) rising =
-    let more = last_below (suc first) high next xs rising.2 in
-    (omega (arith, more.0, rising.2.0), more.1)
+last_below low high first (next ∷ xs) rising = grind (arith, last_below (suc first) high next xs rising.2)
 
 -- ---- all numbers of a range
 
 pub range_at : (low n k : ℕ) → k < n → slice_get (range_with_len low n) k ≡ Some (low + k)
 range_at low zero k l = absurd (omega (arith, l))
 range_at low (suc n) zero l = ap Some (omega arith)
-range_at low (suc n) (suc k) l =
-    range_at (low + 1) n k (omega (arith, l)) ∙ ap Some (omega arith)
+range_at low (suc n) (suc k) l = grind (arith, range_at (low + 1) n k (omega (arith, l)))
 
 range_past : (low n k x : ℕ) → n ≤ k → slice_get (range_with_len low n) k ≡ Some x → ⊥
 range_past low zero k x g e = cc
@@ -118,4 +96,4 @@ module _ (low : ℕ) (bytes : List ℕ) (rising : Rising 1 256 (low ∷ bytes)) 
   pub slots_upto : are_sparse (low ∷ bytes) ≡ false → (1 ≤ low) × (low + length (slots (low ∷ bytes)) ≤ 256)
   slots_upto dense =
       let end = last_below 1 256 low bytes rising in
-      (rising.0, omega (arith, ap length (slots_placed dense) ∙ length-range_with_len low (span low bytes), end.0, end.1))
+      (grind (arith, slots_placed, length-range_with_len))

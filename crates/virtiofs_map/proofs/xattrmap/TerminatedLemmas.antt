@@ -1,6 +1,6 @@
 -- Where a few names are decided, all names are.
-use Rattle.std.proofs.Common.{◌≡◌, ◌≢◌, ℕ, ◌+◌, ◌<◌, Bool, true, false, List, [], ◌∷◌, filter, Option, Some, None}
-use Rattle.std.proofs.Common.{is_some, inl, inr, refl, sym, ap, ◌∙◌, arith}
+use Rattle.std.proofs.Common.{◌≡◌, ◌≢◌, ℕ, ◌+◌, ◌<◌, Bool, true, false, List, [], ◌∷◌, filter, Option, None}
+use Rattle.std.proofs.Common.{is_some, inl, inr, refl, ap, ◌∙◌, arith}
 use Rattle.std.specs.List.{AllByRecursion, find, list_all, slice_split, onto_first}
 use Rattle.std.specs.Option.{option_map_or}
 use Rattle.std.proofs.lemmas.Bool.{and_from, cond_both, cases_Bool, cases_lt, false≢true, true≢false, eqb-false}
@@ -8,7 +8,7 @@ use Rattle.std.proofs.lemmas.List.Elements.{All-head, All-tail, All-nil, All-con
 use Rattle.virtiofs_map.specs.Audit.{IsList, Terminated}
 use Rattle.virtiofs_map.specs.Names.{begins, deciding, answer_by, IsUnterminated, IsUndecided, host_answer_by}
 use Rattle.virtiofs_map.specs.Names.{host_answer, is_decided, names, server_answer}
-use Rattle.virtiofs_map.specs.Rule.{RuleType, MappingRule}
+use Rattle.virtiofs_map.specs.Rule.{MappingRule}
 use Rattle.virtiofs_map.specs.declared.xattrmap.scopes.Side.{Side}
 use Rattle.virtiofs_map.specs.declared.xattrmap.scopes.Side.TheVariants.{Client, Server}
 use Rattle.virtiofs_map.proofs.AuditAlikeLemmas.{fits_more}
@@ -22,11 +22,7 @@ use Rattle.virtiofs_map.proofs.ServerListLemmas.{is_name, is_zero}
 find_more : {X : Type 0} (p q : X → Bool) → ((x : X) → p x ≡ true → q x ≡ true) → (xs : List X)
     → is_some (find p xs) ≡ true → is_some (find q xs) ≡ true
 find_more p q more [] e = e
-find_more p q more (x ∷ xs) e =
-    cond_both (q x) (Some x) (find q xs) (λ o. is_some o ≡ true) (λ _. refl)
-    (λ fails. find_more p q more xs
-    (cond_both (p x) (Some x) (find p xs) (λ o. is_some o ≡ true → is_some (find p xs) ≡ true)
-    (λ holds _. absurd (false≢true (sym fails ∙ more x holds))) (λ _ k. k) e))
+find_more p q more (x ∷ xs) e = grind (arith, find_more p q more xs)
 
 decided_more : (side : Side) (rules : List MappingRule) (front name : List ℕ) → begins front name ≡ true
     → is_some (deciding side rules front) ≡ true → is_some (deciding side rules name) ≡ true
@@ -34,25 +30,15 @@ decided_more side rules front name b e = grind (arith, is_some, deciding-find, f
 
 -- ---- names of the guest
 
-answered_by_kind : (kind : RuleType) (prepend name : List ℕ) → answer_by kind prepend name ≢ IsUnterminated
-answered_by_kind kind prepend name e = grind arith
-
 answered_by : (o : Option MappingRule) (name : List ℕ) → is_some o ≡ true
     → option_map_or (λ rule. answer_by rule.kind rule.prepend name) o IsUnterminated ≢ IsUnterminated
-answered_by o name e k = grind (arith, false≢true, answered_by_kind)
-
-answered_from : (o : Option MappingRule) (name : List ℕ)
-    → option_map_or (λ rule. answer_by rule.kind rule.prepend name) o IsUnterminated ≢ IsUnterminated → is_some o ≡ true
-answered_from o name fails = grind arith
+answered_by o name e k = grind (arith, false≢true)
 
 -- ---- names of the host
 
-decided_by_kind : (kind : RuleType) (prepend host : List ℕ) → is_decided (host_answer_by kind prepend host) ≡ true
-decided_by_kind kind prepend host = grind arith
-
 decided_by : (o : Option MappingRule) (host : List ℕ) → is_some o ≡ true
     → is_decided (option_map_or (λ rule. host_answer_by rule.kind rule.prepend host) o IsUndecided) ≡ true
-decided_by o host e = grind (arith, false≢true, decided_by_kind)
+decided_by o host e = grind (arith, false≢true)
 
 -- ---- the names of a list
 
@@ -73,7 +59,7 @@ parts_are (x ∷ xs) is =
     let below = All-head (λ byte. byte < 256) x xs is in
     cond_both (is_zero x) ([] ∷ slice_split is_zero xs) (onto_first x (slice_split is_zero xs)) (AllByRecursion IsPart)
     (λ _. (tt, more))
-    (λ fails. parts_onto x (omega (arith, eqb-false x 0 fails), below) (slice_split is_zero xs) more)
+    (grind (arith, parts_onto, eqb-false, is_zero))
 
 -- each name of one byte is decided
 abbrev pub BytesDecided : List MappingRule → ℕ → Type 0
@@ -94,9 +80,7 @@ all_decided rules bytes ((x ∷ xs) ∷ parts) all =
     (bytes x all.0.0.0 all.0.0.1) in
     let first = decided_by (deciding Server rules (x ∷ xs)) (x ∷ xs) some in
     rw (some_name x xs)
-    (and_from (is_decided (host_answer rules (x ∷ xs)))
-    (list_all (λ name. is_decided (host_answer rules name)) (filter is_name parts)) first
-    (all_decided rules bytes parts all.1))
+    (search (all_decided rules bytes parts all.1, and_from))
 
 answered_list : (rules : List MappingRule) (list : List ℕ)
     → list_all (λ name. is_decided (host_answer rules name)) (names list) ≡ true → server_answer rules list ≢ None
@@ -112,7 +96,7 @@ terminated_from rules empty bytes = record {
 }
 
 pub empty_from : (rules : List MappingRule) → Terminated rules → is_some (deciding Client rules []) ≡ true
-empty_from rules terminated = grind (arith, answered_from, All-nil)
+empty_from rules terminated = grind (arith, All-nil)
 
 undecided_one : (rules : List MappingRule) (host : List ℕ) (o : Option MappingRule) → is_some o ≡ false
     → option_map_or (λ rule. host_answer_by rule.kind rule.prepend host) o IsUndecided ≡ IsUndecided
@@ -128,6 +112,5 @@ byte_from rules terminated byte low high =
           let none = undecided_one rules host (deciding Server rules host) fails in
           let answer = server_one rules host (λ e. cc) (not_zero_name host is) ∙ ap answer_to_one none in
           absurd (terminated.server (byte ∷ 0 ∷ [])
-          (All-cons (λ b. b < 256) byte (0 ∷ []) high
-          (All-cons (λ b. b < 256) 0 [] (omega arith) (All-nil (λ b. b < 256)))) answer))
+          (grind (arith, All-cons, All-nil)) answer))
     ]

@@ -60,6 +60,6 @@ module _ (side : Side) (rules : List MappingRule) (name : List â„•) (answer : â„
       record {
         rule = one.0;
         decides = decides;
-        kind = same_type one.0.kind Prefix (omega (arith, answer_type side rules name one.0 decides, answers));
+        kind = grind (arith, same_type, answer_type);
         here = one.1;
       }

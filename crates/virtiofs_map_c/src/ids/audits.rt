@@ -19,13 +19,10 @@ use std::alloc::Global;
 fn write(least: Option<IdsFound>, found: &mut IdsFound) -> bool
     ensures { IsWritten least result found.old found.new }
 {
-    match least {
-        Some(it) => {
-            *found = it;
-            true
-        }
-        None => false,
+    if let Some(it) = least {
+        *found = it;
     }
+    least.is_some()
 }
 
 /// Whether each id comes back: what it becomes on the host becomes that id again.
@@ -51,16 +48,13 @@ pub extern "C" fn virtiofs_map_ids_comes_back(
     ensures faulty { (wrong : ArrayFault) → HasArrayFault specs.now wrong
         → TellsThis (IsArrayTold result fault.new) wrong }
 {
+    *yes = false;
     match come_back(alloc, specs) {
         Ok(least) => {
-            *fault = Fault::none();
             *yes = !write(least, found);
-            OK
+            fault.set(OK, Fault::none())
         }
-        Err(error) => {
-            *yes = false;
-            tell(&error, fault)
-        }
+        Err(error) => tell(&error, fault),
     }
 }
 
@@ -87,16 +81,13 @@ pub extern "C" fn virtiofs_map_ids_is_alone(
     ensures faulty { (wrong : ArrayFault) → HasArrayFault specs.now wrong
         → TellsThis (IsArrayTold result fault.new) wrong }
 {
+    *yes = false;
     match alone(alloc, specs) {
         Ok(least) => {
-            *fault = Fault::none();
             *yes = !write(least, found);
-            OK
+            fault.set(OK, Fault::none())
         }
-        Err(error) => {
-            *yes = false;
-            tell(&error, fault)
-        }
+        Err(error) => tell(&error, fault),
     }
 }
 
@@ -125,16 +116,13 @@ pub extern "C" fn virtiofs_map_ids_reaches(
     ensures faulty { (wrong : ArrayFault) → HasArrayFault specs.now wrong
         → TellsThis (IsArrayTold result fault.new) wrong }
 {
+    *yes = true;
     match reach(alloc, specs, first, last) {
         Ok(least) => {
-            *fault = Fault::none();
             *yes = write(least, found);
-            OK
+            fault.set(OK, Fault::none())
         }
-        Err(error) => {
-            *yes = true;
-            tell(&error, fault)
-        }
+        Err(error) => tell(&error, fault),
     }
 }
 
@@ -164,15 +152,12 @@ pub extern "C" fn virtiofs_map_ids_apart(
     ensures faulty { (wrong : ArrayFault) → HasPairFault specs.now others.now wrong
         → TellsThis (IsArrayTold result fault.new) wrong }
 {
+    *yes = false;
     match apart(alloc, specs, others) {
         Ok(least) => {
-            *fault = Fault::none();
             *yes = !write(least, found);
-            OK
+            fault.set(OK, Fault::none())
         }
-        Err(error) => {
-            *yes = false;
-            tell(&error, fault)
-        }
+        Err(error) => tell(&error, fault),
     }
 }

@@ -1,39 +1,21 @@
 //! The map of a text of rules, written as bytes, and what C is told where no map is made.
-ghost use Rattle.std.specs.Prelude.{◌≡◌, ℕ, List, length, Some, None, IfOk, IfErr, OnErr};
+ghost use Rattle.std.specs.Prelude.{◌≡◌, List, length, Some, None, IfOk, IfErr, OnErr};
 ghost use Rattle.virtiofs_map.specs.Refusal.{OutOfMemoryOr};
 ghost use Rattle.virtiofs_map.specs.Rule.{MappingRule};
 ghost use Rattle.virtiofs_map_c.specs.Names.{TellsNames};
 ghost use Rattle.virtiofs_map_c.specs.Rules.{BytesSayRules, OfRules, HasBytesFault, bytes_fault_of, bytes_told, bytes_quoted, IsBytesTold};
-ghost use Rattle.virtiofs_map_c.specs.Codes.{no_part, rule};
-ghost use Rattle.virtiofs_map_c.specs.Faults.{told_at, failure_code};
 ghost use Rattle.virtiofs_map_c.specs.Replies.{IsQuoted};
 ghost use Rattle.virtiofs_map.specs.RulesFault.{fault_at};
 ghost use Rattle.std.specs.Option.{option_map};
 
 use super::reading::ReadError;
-use crate::buffer::{Quoted, quote};
+use crate::buffer::quote;
 use crate::bytes::clear;
-use crate::codes::{NO_MEMORY, NO_PART, NO_ROOM, OK, REFUSED, RULE};
+use crate::codes::{NO_MEMORY, NO_ROOM, OK, REFUSED, RULE};
 use crate::fault::Fault;
 use std::alloc::Global;
 use virtiofs_map::xattrmap::image::ImageWritten;
 use virtiofs_map::xattrmap::{ErrorKind, PatternField, XattrMap};
-
-/// The map of a text in bytes.
-fn read(alloc: Global, text: &[u8]) -> Result<XattrMap, ReadError>
-    ensures read { IfOk result (BytesSayRules text.now) }
-    ensures refused { IfErr result (λ e.
-        OutOfMemoryOr (bytes_fault_of e) (HasBytesFault text.now)) }
-{
-    let text = match str::from_utf8(text) {
-        Ok(text) => text,
-        Err(_) => return Err(ReadError::NotUtf8),
-    };
-    match XattrMap::try_from(alloc, text) {
-        Ok(map) => Ok(map),
-        Err(error) => Err(ReadError::Rules(error)),
-    }
-}
 
 /// Writes the map of a text, and tells how many bytes it has.
 pub fn made(
@@ -48,7 +30,14 @@ pub fn made(
         OutOfMemoryOr (bytes_fault_of e) (HasBytesFault text.now)) }
     ensures keeps { OnErr result (bytes.new ≡ bytes.old) }
 {
-    let map = read(alloc, text)?;
+    let text = match str::from_utf8(text) {
+        Ok(text) => text,
+        Err(_) => return Err(ReadError::NotUtf8),
+    };
+    let map = match XattrMap::try_from(alloc, text) {
+        Ok(map) => map,
+        Err(error) => return Err(ReadError::Rules(error)),
+    };
     match map.write_image(bytes) {
         ImageWritten::Written(count) => {
             *wanted = count;
@@ -63,20 +52,6 @@ pub fn made(
     }
 }
 
-/// A fault of a text of rules that blames no rule.
-fn of_text(kind: u32) -> Fault
-    ensures { result ≡ told_at kind rule 0 0 0 }
-{
-    Fault::at(kind, RULE, 0, Quoted::nothing())
-}
-
-/// That a request for memory was refused.
-fn of_memory() -> Fault
-    ensures { result ≡ told_at 1 no_part 0 0 0 }
-{
-    Fault::at(1, NO_PART, 0, Quoted::nothing())
-}
-
 /// What C is told of an error that blames a rule.
 fn told_of_rule(number: usize, cause: &ErrorKind, quoted: &mut [u8]) -> Fault
     ensures told { result ≡ bytes_told
@@ -88,65 +63,15 @@ fn told_of_rule(number: usize, cause: &ErrorKind, quoted: &mut [u8]) -> Fault
     match cause {
         ErrorKind::InvalidScope { got, .. } => Fault::at(12, RULE, number, quote(got, quoted)),
         ErrorKind::InvalidType { got, .. } => Fault::at(13, RULE, number, quote(got, quoted)),
-        ErrorKind::IncompleteRule => Fault::at(14, RULE, number, Quoted::nothing()),
-        ErrorKind::MapRuleViolation => Fault::at(15, RULE, number, Quoted::nothing()),
+        ErrorKind::IncompleteRule => Fault::plain(14, RULE, number),
+        ErrorKind::MapRuleViolation => Fault::plain(15, RULE, number),
         ErrorKind::NulInPattern {
             pattern: PatternField::Key,
-        } => Fault::at(17, RULE, number, Quoted::nothing()),
+        } => Fault::plain(17, RULE, number),
         ErrorKind::NulInPattern {
             pattern: PatternField::Prepend,
-        } => Fault::at(18, RULE, number, Quoted::nothing()),
-        ErrorKind::NoRulesProvided => Fault::none(),
-        ErrorKind::OutOfMemory => Fault::none(),
-        ErrorKind::InvalidDelimiter => Fault::none(),
-        ErrorKind::UnterminatedMapping => Fault::none(),
-    }
-}
-
-/// What C is told of an error that blames no rule.
-fn told_of_none(cause: &ErrorKind) -> Fault
-    ensures { (room : ℕ) → result ≡ bytes_told
-        room (option_map OfRules (fault_at None cause.now)) }
-{
-    match cause {
-        ErrorKind::NoRulesProvided => of_text(16),
-        ErrorKind::OutOfMemory => of_memory(),
-        ErrorKind::InvalidScope { .. } => Fault::none(),
-        ErrorKind::InvalidType { .. } => Fault::none(),
-        ErrorKind::IncompleteRule => Fault::none(),
-        ErrorKind::MapRuleViolation => Fault::none(),
-        ErrorKind::NulInPattern { .. } => Fault::none(),
-        ErrorKind::InvalidDelimiter => Fault::none(),
-        ErrorKind::UnterminatedMapping => Fault::none(),
-    }
-}
-
-/// What C is told of an error.
-fn told(error: &ReadError, quoted: &mut [u8]) -> Fault
-    ensures told { result ≡ bytes_told (length quoted.old) (bytes_fault_of error.now) }
-    ensures quoted { IsQuoted (bytes_quoted (bytes_fault_of error.now)) quoted.old quoted.new }
-{
-    match error {
-        ReadError::NotUtf8 => of_text(2),
-        ReadError::OutOfMemory => of_memory(),
-        ReadError::Rules(error) => match error.rule {
-            None => told_of_none(&error.cause),
-            Some(number) => told_of_rule(number, &error.cause, quoted),
-        },
-    }
-}
-
-/// The code of a text of which no map is made.
-fn code_of(error: &ReadError) -> u32
-    ensures { result ≡ failure_code (bytes_fault_of error.now) }
-{
-    match error {
-        ReadError::NotUtf8 => REFUSED,
-        ReadError::OutOfMemory => NO_MEMORY,
-        ReadError::Rules(error) => match (error.rule, &error.cause) {
-            (None, ErrorKind::OutOfMemory) => NO_MEMORY,
-            _ => REFUSED,
-        },
+        } => Fault::plain(18, RULE, number),
+        _ => Fault::none(),
     }
 }
 
@@ -154,6 +79,14 @@ fn code_of(error: &ReadError) -> u32
 pub fn tell_of_rules(error: &ReadError, fault: &mut Fault, quoted: &mut [u8]) -> u32
     ensures { IsBytesTold result fault.new quoted.old quoted.new (bytes_fault_of error.now) }
 {
-    *fault = told(error, quoted);
-    code_of(error)
+    match error {
+        ReadError::NotUtf8 => fault.set(REFUSED, Fault::plain(2, RULE, 0)),
+        ReadError::OutOfMemory => fault.set(NO_MEMORY, Fault::of_kind(1)),
+        ReadError::Rules(error) => match (error.rule, &error.cause) {
+            (Some(number), cause) => fault.set(REFUSED, told_of_rule(number, cause, quoted)),
+            (None, ErrorKind::NoRulesProvided) => fault.set(REFUSED, Fault::plain(16, RULE, 0)),
+            (None, ErrorKind::OutOfMemory) => fault.set(NO_MEMORY, Fault::of_kind(1)),
+            (None, _) => fault.set(REFUSED, Fault::none()),
+        },
+    }
 }

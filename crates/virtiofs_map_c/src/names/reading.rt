@@ -1,7 +1,6 @@
 //! The map of a text of rules in bytes.
 
-use std::alloc::Global;
-use virtiofs_map::xattrmap::{Error, XattrMap};
+use virtiofs_map::xattrmap::Error;
 
 /// Why no map is made of a text: the first fault, or out of memory.
 #[derive(Drop)]

@@ -11,17 +11,10 @@ pub fn put_escaped(bytes: &[u8], out: &mut [u8], len: &mut usize)
     ensures { Goes len.old out.old len.new out.new }
 {
     for chunk in bytes.utf8_chunks() {
-        put_text(chunk.valid(), out, len);
+        for character in chunk.valid().chars() {
+            put_character(character, out, len);
+        }
         put_bytes(chunk.invalid(), out, len);
-    }
-}
-
-/// Writes the characters of a text.
-fn put_text(text: &str, out: &mut [u8], len: &mut usize)
-    ensures { Goes len.old out.old len.new out.new }
-{
-    for character in text.chars() {
-        put_character(character, out, len);
     }
 }
 
@@ -62,8 +55,5 @@ fn put_bytes(bytes: &[u8], out: &mut [u8], len: &mut usize)
 
 /// The lower case hexadecimal digit of a value below 16.
 fn hex_digit(value: u8) -> u8 {
-    match b"0123456789abcdef".get(value as usize) {
-        Some(digit) => *digit,
-        None => b'?',
-    }
+    *b"0123456789abcdef".get(value as usize).unwrap_or(&b'?')
 }

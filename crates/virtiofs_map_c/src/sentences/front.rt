@@ -1,6 +1,5 @@
 //! A text that is written piece by piece into the caller's buffer, as far as there is room.
 ghost use Rattle.std.specs.Prelude.{◌≡◌};
-ghost use Rattle.std.specs.Str.Lossy.{utf8_valid_len};
 ghost use Rattle.virtiofs_map_c.specs.Front.{Goes, cut_text};
 
 use itoa::Buffer;
@@ -39,16 +38,11 @@ pub fn put_number(number: u64, out: &mut [u8], len: &mut usize)
 pub fn cut_whole(out: &mut [u8])
     ensures { out.new ≡ cut_text out.old }
 {
-    let (_, rest) = out.split_at_mut(text_len(out));
-    rest.fill(b' ');
-}
-
-/// How many of the first bytes are text.
-fn text_len(bytes: &[u8]) -> usize
-    ensures { result ≡ utf8_valid_len bytes.now }
-{
-    match from_utf8(bytes) {
-        Ok(_) => bytes.len(),
-        Err(error) => error.valid_up_to(),
+    match from_utf8(out) {
+        Ok(_) => {}
+        Err(error) => {
+            let (_, rest) = out.split_at_mut(error.valid_up_to());
+            rest.fill(b' ');
+        }
     }
 }

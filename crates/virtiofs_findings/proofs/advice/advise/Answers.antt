@@ -1,7 +1,7 @@
-use Rattle.std.proofs.Common.{inl, inr}
+use Rattle.std.proofs.Common.{inl, inr, arith}
 use Rattle.std.proofs.lemmas.List.{take_all}
 use Rattle.virtiofs_findings.specs.Advice.{IsPassedOver}
-use Rattle.virtiofs_findings.proofs.AdviceLemmas.{came_to, rests_of}
+use Rattle.virtiofs_findings.proofs.AdviceLemmas.{rests_of}
 use Rattle.virtiofs_findings.proofs.ListLemmas.{all_at}
 use Rattle.virtiofs_findings.proofs.advice.advise.Goals as goal
 
@@ -21,11 +21,8 @@ loop-options-preserved g c =
     (inr (record {
       guests = c.in_ok-guests.guests.items;
       is_with = rw c.as_slice-options.ensures.value at c.in_ok-guests.ensures;
-      why = came_to c.args.accepted.now c.args.given.now c.args.all.now.findings.items c.in_ok-guests.guests.items
-          c.in_ok-advised.field-0 c.in-Refused.is c.in_ok-advised.ensures;
+      why = grind arith;
     }))
 
 pub returns-clause-none : goal.returns-clause-none
-returns-clause-none g c =
-    λ none. rw (take_all c.loop-options.options-index c.args.tries.now c.loop-options-test.false) at
-    c.loop-options.invariant
+returns-clause-none g c = λ none. rw (take_all _ _ c.loop-options-test.false) at c.loop-options.invariant

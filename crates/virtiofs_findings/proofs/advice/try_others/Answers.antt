@@ -1,15 +1,13 @@
-use Rattle.std.proofs.Common.{◌∙◌, refl, sym}
+use Rattle.std.proofs.Common.{◌∙◌, refl, sym, arith}
 use Rattle.std.proofs.lemmas.Bool.{true≢false}
-use Rattle.virtiofs_findings.proofs.AdviceLemmas.{are_refused, is_audited}
-use Rattle.virtiofs_findings.proofs.ListLemmas.{is_empty_here, is_some_here}
+use Rattle.virtiofs_findings.proofs.AdviceLemmas.{is_audited, all_refused}
+use Rattle.virtiofs_findings.proofs.ListLemmas.{is_empty_here}
 use Rattle.virtiofs_findings.proofs.NarrowerLemmas.{are_narrower}
 use Rattle.virtiofs_findings.proofs.TestLemmas.{decides_not}
 use Rattle.virtiofs_findings.proofs.advice.try_others.Goals as goal
 
 pub returns-then-not-is_empty : goal.returns-then-not-is_empty
-returns-then-not-is_empty g c =
-    are_refused c.args.guests.items _ _ (rw c.as_slice.ensures.value at c.in_ok-sets.ensures.says)
-    c.new-refusals.ensures.items (is_some_here _ _ (rw c.as_slice-2.ensures.value at c.if-not-is_empty.ensures) refl)
+returns-then-not-is_empty g c = grind (arith, all_refused)
 
 pub returns-then-not-branch : goal.returns-then-not-branch
 returns-then-not-branch g c = record {
@@ -24,8 +22,7 @@ returns-then-not-branch g c = record {
 pub returns-then-not-finds_less : goal.returns-then-not-finds_less
 returns-then-not-finds_less g c = record {
   after = c.in_ok-findings.findings.items;
-  audited = is_audited c.args.guests.items c.in_ok-sets.sets.items _ _ c.in_ok-findings.findings.items
-      (rw c.as_slice.ensures.value at c.in_ok-sets.ensures.sets_up)
+  audited = is_audited _ _ _ _ _ (rw c.as_slice.ensures.value at c.in_ok-sets.ensures.sets_up)
       (rw c.as_slice.ensures.value at c.in_ok-sets.ensures.says) c.new-refusals.ensures.items
       (is_empty_here _ _ (rw c.as_slice-2.ensures.value at c.if-not-is_empty.ensures) refl)
       (rw c.as_slice-5.ensures.value at c.in_ok-findings.ensures);
@@ -36,13 +33,12 @@ returns-then-not-finds_less g c = record {
 pub returns : goal.returns
 returns g c = (
   record {
-    narrower = are_narrower c.args.given.now c.args.guests.items c.args.all.now.sets.items c.in_ok-sets.sets.items
+    narrower = are_narrower _ _ _ _
         c.requires.audits.sets_up (rw c.as_slice.ensures.value at c.in_ok-sets.ensures.sets_up) c.requires.rest
         (rw (c.as_slice-3.ensures.value, c.as_slice-4.ensures.value) at
         (c.in_ok-are_narrower.ensures.narrower c.if-not-branch.false));
     sets_up = rw c.as_slice.ensures.value at c.in_ok-sets.ensures.sets_up;
-    audited = is_audited c.args.guests.items c.in_ok-sets.sets.items _ _
-        c.in_ok-findings.findings.items (rw c.as_slice.ensures.value at c.in_ok-sets.ensures.sets_up)
+    audited = is_audited _ _ _ _ _ (rw c.as_slice.ensures.value at c.in_ok-sets.ensures.sets_up)
         (rw c.as_slice.ensures.value at c.in_ok-sets.ensures.says) c.new-refusals.ensures.items
         (is_empty_here _ _ (rw c.as_slice-2.ensures.value at c.if-not-is_empty.ensures) refl)
         (rw c.as_slice-5.ensures.value at c.in_ok-findings.ensures);

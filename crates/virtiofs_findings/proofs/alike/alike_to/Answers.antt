@@ -1,5 +1,6 @@
-use Rattle.std.proofs.Common.{sym, ◌∙◌}
-use Rattle.virtiofs_findings.proofs.AlikeLemmas.{count_below, alike_more, alike_same, alike_all}
+use Rattle.std.proofs.lemmas.List.{take_all}
+use Rattle.std.proofs.Common.{sym, ◌∙◌, arith}
+use Rattle.virtiofs_findings.proofs.AlikeLemmas.{count_below, alike_more, alike_same}
 use Rattle.virtiofs_findings.proofs.alike.alike_to.Goals.{then-have_same_options, else-have_same_options}
 use Rattle.virtiofs_findings.proofs.alike.alike_to.Goals as goal
 
@@ -20,6 +21,4 @@ loop-place-preserved g c = elim c.if-have_same_options.branch [
 ]
 
 pub returns : goal.returns
-returns g c =
-    alike_all c.args.guests.now c.loop-place.place c.args.guest.now c.loop-place.alike c.loop-place-test.false
-    c.loop-place.invariant
+returns g c = grind (arith, take_all)

@@ -8,9 +8,8 @@ loop-place-init g c = adds_none (FindsWithEarlier c.args.sets.now) 1 _ _ refl
 
 pub loop-place-preserved : goal.loop-place-preserved
 loop-place-preserved g c =
-    adds_more (FindsWithEarlier c.args.sets.now) c.args.sets.now c.loop-place.place _ c.index-sets-place.result _ _ _
+    adds_more _ _ _ _ _ _ _ _
     c.index-sets-place.is c.loop-place-test.true refl c.loop-place.invariant c.in_ok-push_pairs.ensures
 
 pub returns : goal.returns
-returns g c =
-    adds_all (FindsWithEarlier c.args.sets.now) c.args.sets.now c.loop-place.place _ _ c.loop-place-test.false c.loop-place.invariant
+returns g c = adds_all _ _ _ _ _ c.loop-place-test.false c.loop-place.invariant

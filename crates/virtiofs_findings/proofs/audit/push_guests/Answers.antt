@@ -12,5 +12,4 @@ loop-place-preserved g c =
     c.index-sets-place.is c.loop-place-test.true refl c.loop-place.invariant c.in_ok-push_guest.ensures
 
 pub returns : goal.returns
-returns g c =
-    adds_all FindsGuest c.args.sets.now c.loop-place.place _ _ c.loop-place-test.false c.loop-place.invariant
+returns g c = adds_all FindsGuest c.args.sets.now c.loop-place.place _ _ c.loop-place-test.false c.loop-place.invariant

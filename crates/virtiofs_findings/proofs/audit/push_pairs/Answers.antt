@@ -6,14 +6,12 @@ use Rattle.virtiofs_findings.proofs.ReportLemmas.{adds_none, adds_more}
 use Rattle.virtiofs_findings.proofs.audit.push_pairs.Goals as goal
 
 pub loop-place-init : goal.loop-place-init
-loop-place-init g c =
-    adds_none (λ first earlier. FindsPair first c.args.number earlier c.args.set.now) 1 _ _ refl
+loop-place-init g c = adds_none (λ first earlier. FindsPair first c.args.number earlier c.args.set.now) 1 _ _ refl
 
 pub loop-place-preserved : goal.loop-place-preserved
 loop-place-preserved g c =
-    adds_more (λ first earlier. FindsPair first c.args.number earlier c.args.set.now) c.args.sets.now
-    c.loop-place.place _ c.index-sets-place.result _ _ _ c.index-sets-place.is (omega arith) refl
-    c.loop-place.invariant c.in_ok-push_pair.ensures
+    adds_more (λ first earlier. FindsPair first c.args.number earlier c.args.set.now) _
+    _ _ _ _ _ _ c.index-sets-place.is (omega arith) refl c.loop-place.invariant c.in_ok-push_pair.ensures
 
 pub returns : goal.returns
 returns g c =

@@ -3,7 +3,5 @@ use Rattle.virtiofs_findings.proofs.explain.explain_guests.Goals as goal
 
 pub loop-place-preserved : goal.loop-place-preserved
 loop-place-preserved c =
-    rw c.in_ok-push.ensures.items
-    (explains_more c.args.questions.now c.args.guests.now c.args.sets.now c.loop-place.all.items c.loop-place.place
-    c.index-guests-place.result c.index-sets-place.result c.in_ok-explain_each.field-0 c.index-guests-place.is
+    rw c.in_ok-push.ensures.items (explains_more _ _ _ _ _ _ _ _ c.index-guests-place.is
     c.index-sets-place.is c.loop-place-test.true c.requires c.loop-place.invariant c.in_ok-explain_each.ensures)

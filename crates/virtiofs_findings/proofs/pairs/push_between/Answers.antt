@@ -3,5 +3,4 @@ use Rattle.virtiofs_findings.proofs.pairs.push_between.Goals as goal
 
 pub returns : goal.returns
 returns g c =
-    between_found c.push_name-3.result c.args.first c.args.second c.args.one.now c.args.other.now _ _ _ _
-    c.in_ok-push_name.ensures c.in_ok-push_name-2.ensures c.push_name-3.ensures
+    between_found _ _ _ _ _ _ _ _ _ c.in_ok-push_name.ensures c.in_ok-push_name-2.ensures c.push_name-3.ensures

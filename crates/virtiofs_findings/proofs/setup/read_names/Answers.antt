@@ -7,6 +7,6 @@ returns-in-Ok-clause-says g c = adds_no_rules _ _ _ _ _ _ c.in-Some.is refl c.in
 
 pub returns-in_ok-push-in-Err-clause-says : goal.returns-in_ok-push-in-Err-clause-says
 returns-in_ok-push-in-Err-clause-says g c =
-    adds_rules c.args.number c.args.rules c.in-Some.text c.in-Err.error _ _ _ c.in-Some.is c.in-Err.ensures.refused
+    adds_rules _ _ _ _ _ _ _ c.in-Some.is c.in-Err.ensures.refused
     (c.tells_fault.ensures.0 c.if-not-tells_fault.false) refl refl c.in_ok-rules_sentence-in-Err.ensures
     c.in_ok-push-in-Err.ensures.items

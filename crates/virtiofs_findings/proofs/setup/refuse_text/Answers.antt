@@ -18,9 +18,7 @@ pub returns-in-InvalidPrefix-clause-told : goal.returns-in-InvalidPrefix-clause-
 returns-in-InvalidPrefix-clause-told g c = adds_place _ _ _ c.args.number c.args.what _ c.tell.ensures
 
 pub returns-in-InvalidLength-clause-told : goal.returns-in-InvalidLength-clause-told
-returns-in-InvalidLength-clause-told g c =
-    adds_place _ _ _ c.args.number c.args.what _ c.tell-in-InvalidLength.ensures
+returns-in-InvalidLength-clause-told g c = adds_place _ _ _ c.args.number c.args.what _ c.tell-in-InvalidLength.ensures
 
 pub returns-in-InvalidValue-clause-told : goal.returns-in-InvalidValue-clause-told
-returns-in-InvalidValue-clause-told g c =
-    adds_place _ _ _ c.args.number c.args.what _ c.tell-in-InvalidValue.ensures
+returns-in-InvalidValue-clause-told g c = adds_place _ _ _ c.args.number c.args.what _ c.tell-in-InvalidValue.ensures

@@ -1,6 +1,7 @@
-use Rattle.virtiofs_host.proofs.DecimalLemmas.{IsUtf8-decimal}
+use Rattle.std.proofs.Common.{arith}
+use Rattle.std.proofs.lemmas.Str.{IsUtf8-from_ascii}
+use Rattle.virtiofs_host.proofs.DecimalLemmas.{IsAscii-digits}
 use Rattle.virtiofs_host.proofs.decimal.decimal.Goals as goal
 
 pub returns-in_default-clause-refused : goal.returns-in_default-clause-refused
-returns-in_default-clause-refused c =
-    λ number decimal. c.in_default.ensures.cases.0 (IsUtf8-decimal c.args.text.now number decimal)
+returns-in_default-clause-refused c = grind (arith, IsUtf8-from_ascii, IsAscii-digits)

@@ -1,5 +1,4 @@
-use Rattle.std.proofs.Common.{ℕ, List, Bool, refl, subst}
-use Rattle.virtiofs_host.specs.Runners.{name_of, GivesTo}
+use Rattle.std.proofs.Common.{arith, refl}
 use Rattle.virtiofs_host.proofs.runner.starting.Goals as goal
 
 pub returns : goal.returns
@@ -15,14 +14,8 @@ returns g c =
       given_groups = c.in_ok-given_to-2.field-0;
       users_given = refl;
       groups_given = refl;
-      users = subst (λ (own : Bool). GivesTo own (name_of c.args.user) c.args.uid c.args.subuid.now users)
-          c.is_own_group-is_own.ensures
-          (subst (λ (name : List ℕ). GivesTo c.is_own_group-is_own.result name c.args.uid c.args.subuid.now users)
-          c.name_of-name.ensures c.in_ok-given_to.ensures);
-      groups = subst (λ (own : Bool). GivesTo own (name_of c.args.user) c.args.uid c.args.subgid.now groups)
-          c.is_own_group-is_own.ensures
-          (subst (λ (name : List ℕ). GivesTo c.is_own_group-is_own.result name c.args.uid c.args.subgid.now groups)
-          c.name_of-name.ensures c.in_ok-given_to-2.ensures);
+      users = grind arith;
+      groups = grind arith;
       no_users = refl;
       no_groups = refl;
       starts = refl;

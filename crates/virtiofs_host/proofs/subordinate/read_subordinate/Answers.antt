@@ -7,9 +7,7 @@ pub loop-rest-preserved-in_ok-push : goal.loop-rest-preserved-in_ok-push
 loop-rest-preserved-in_ok-push g c =
     let is : parts_left 10 c.loop-rest.rest ≡ c.cut.result.0.now ∷ parts_left 10 c.cut.result.1 =
     rw c.in-Some.is c.cut.ensures.parts in
-    rw c.in_ok-push.ensures.items
-    (said_more _ _ _ _ _ c.loop-rest.given.items c.in-Some-ids_of.ids is c.loop-rest.invariant
-    c.in-Some-ids_of.ensures.gives)
+    rw c.in_ok-push.ensures.items (said_more _ _ _ _ _ _ _ is c.loop-rest.invariant c.in-Some-ids_of.ensures.gives)
 
 pub returns : goal.returns
 returns g c = all_said _ _ _ c.loop-rest.given.items (ap (parts_left 10) c.in_default.is) c.loop-rest.invariant

@@ -22,13 +22,12 @@ loop-cut-preserved g c =
     elim c.if-next-until.branch [
       | then-next-until+in_ok-push w ↦
           rw (w.kept-is, w.in_ok-push.ensures.items)
-          (CutTo-push c.args.whole cuts i c.loop-cut.next c.loop-cut.kept.items cut c.loop-cut.invariant
-          c.requires.spans c.requires.firsts inside here c.max-next.result c.min-until.result _ (omega arith) (omega arith) (omega arith)
-          refl refl)
+          (CutTo-push _ _ _ _ _ _ c.loop-cut.invariant c.requires.spans c.requires.firsts inside here _ _ _
+          (omega arith) (omega arith) (omega arith) refl refl)
       | else-next-until w ↦
           rw w.kept-is
-          (CutTo-pass c.args.whole cuts i c.loop-cut.next c.loop-cut.kept.items cut c.loop-cut.invariant
-          c.requires.spans c.requires.firsts inside here c.max-next.result (omega arith) (omega arith))
+          (CutTo-pass _ _ _ _ _ _ c.loop-cut.invariant c.requires.spans c.requires.firsts inside here _ (omega arith)
+          (omega arith))
     ]
 
 pub returns : goal.returns
@@ -40,18 +39,14 @@ returns g c =
     elim c.if-next-end.branch [
       | then-next-end+in_ok-push-2 w ↦
           rw (w.kept-is, w.in_ok-push-2.ensures.items) (record {
-            apart = apart-rest whole cuts c.loop-cut.cut-index c.loop-cut.next kept so_far c.loop-cut-test.false _
-                (omega arith) (omega arith) refl refl;
-            runs = runs-rest whole cuts c.loop-cut.cut-index c.loop-cut.next kept so_far c.loop-cut-test.false _
-                (omega arith) refl refl;
-            hold = CutTo-rest whole cuts c.loop-cut.cut-index c.loop-cut.next kept so_far c.loop-cut-test.false _
-                (omega arith) refl refl;
+            apart = apart-rest _ _ _ _ _ so_far c.loop-cut-test.false _ (omega arith) (omega arith) refl refl;
+            runs = runs-rest _ _ _ _ _ so_far c.loop-cut-test.false _ (omega arith) refl refl;
+            hold = CutTo-rest _ _ _ _ _ so_far c.loop-cut-test.false _ (omega arith) refl refl;
           })
       | else-next-end w ↦
           rw w.kept-is (record {
             apart = so_far.apart;
             runs = so_far.runs;
-            hold = CutTo-end whole cuts c.loop-cut.cut-index c.loop-cut.next kept so_far c.loop-cut-test.false
-                (omega arith);
+            hold = CutTo-end _ _ _ _ _ so_far c.loop-cut-test.false (omega arith);
           })
     ]

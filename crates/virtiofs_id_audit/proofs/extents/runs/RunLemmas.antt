@@ -177,12 +177,7 @@ module _ (specs : List IdMap) (trip : Piece) (n last : ℕ) (moved : Run) (accep
         → IsRun (IsAstray specs) n 4294967294 (record { last = last; all = true })
     IsRun-starts each =
         let (to, start) = start_by there.becomes there.first each in
-        record {
-          from = from;
-          to = within;
-          all = λ _ m from to'. is_astray to each start m from to';
-          none = λ never. absurd (cc);
-        }
+        search (rules, is_astray)
 
 -- ---- what is known of two kinds
 

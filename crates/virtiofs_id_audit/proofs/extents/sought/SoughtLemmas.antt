@@ -34,7 +34,6 @@ module _ (such : ℕ → Type 0) (next : ℕ) (others : List Span) (run : Run) (
   pub OthersTo-push : (span : Span) → run.all ≡ false → span.first ≡ next → span.last ≡ run.last
       → OthersTo such (run.last + 1) (others ++ span ∷ [])
   OthersTo-push span none first_is last_is =
-      let far = is.from in
       record {
         bound = omega (arith, is.to);
         apart = AreApart-push others next span so_far.apart so_far.below (omega arith) (omega (arith, is.to));
@@ -105,8 +104,7 @@ module _ {A E : Type 0} (others : List Span) (all : Span) (last_is : all.last �
       → AreOthers (IsSought sought specs merged) 4294967295 (Hold others) → (r : Result (Vec Span A) E)
       → IfOk r (λ ids. (id : ℕ) → Hold ids.items id ↔ (Has all id × (¬ Hold others id)))
       → IfOk r (λ ids. (id : ℕ) → Hold ids.items id ↔ IsSought sought specs hosts id)
-  all_sought sought specs merged hosts first_is same are (Ok ids) hold =
-      sought_held sought specs merged hosts others ids.items all first_is last_is same are hold
+  all_sought sought specs merged hosts first_is same are (Ok ids) hold = search (rules, sought_held)
   all_sought sought specs merged hosts first_is same are (Err e) hold = tt
 
   pub all_below : (r : Result (Vec Span A) E)

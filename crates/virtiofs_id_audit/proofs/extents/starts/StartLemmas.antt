@@ -50,8 +50,7 @@ module _ (specs : List IdMap) (piece : Piece) (starts : List ℕ) (host guest : 
             let before : value_in piece (host - 1) ≡ Some (guest - 1) =
             value-each piece start (host - 1) each start_is (omega arith) ∙ ap (λ (n : ℕ). Some n) (omega arith) in
             inr (rw before at (is.becomes (host - 1) (omega arith) (omega arith)))
-        by false all later =
-            inl (at (same_Some _ _ (sym ((value-not_each piece start all start_is is.named).1 host) ∙ value)))
+        by false all later = search (rules, at, same_Some, value-not_each, value)
 
 -- ---- the pieces so far
 
@@ -85,16 +84,12 @@ module _ (specs : List IdMap) (starts : List ℕ) (left after : PiecesLeft) (pie
 
   pub StartsSoFar-push : (start : ℕ) → Some start ≡ value_in piece piece.first
       → StartsSoFar specs (starts ++ start ∷ []) after
-  StartsSoFar-push start start_is =
-      with_more (starts ++ start ∷ []) (λ guest listed. Contains-append_left starts (start ∷ []) guest listed)
-      (λ host guest from to becomes. started specs piece (starts ++ start ∷ []) host guest accepted is_piece from to
-      becomes start start_is (Contains-push starts start))
+  StartsSoFar-push start start_is = search (rules, with_more, Contains-append_left, started, is_piece, Contains-push)
 
 pub AreStarts-sorted : (specs : List IdMap) (starts sorted : List ℕ) (left after : PiecesLeft)
     → StartsSoFar specs starts left → GivesPiece left None after → IsPermutation starts sorted
     → AreStarts specs sorted
 AreStarts-sorted specs starts sorted left after so_far gives permutation host guest some within becomes =
-    let end : left.next ≡ 4294967296 = gives.0 in
     elim (so_far.starts_are host guest some (omega arith) becomes) [
       | inl listed ↦ inl (Contains-permutation starts sorted guest permutation listed)
       | inr both ↦ inr both

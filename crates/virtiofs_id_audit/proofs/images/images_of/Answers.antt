@@ -7,33 +7,21 @@ use Rattle.virtiofs_id_audit.proofs.images.images_of.Goals as goal
 pub loop-piece-preserved : goal.loop-piece-preserved
 loop-piece-preserved g c =
     let is =
-    piece_given c.args.map.now _ c.loop-piece.piece-iterator c.next.new.self c.in-Some.piece
-    c.loop-piece.invariant.counts c.in-Some.ensures.steps in
+    piece_given _ _ _ _ _ c.loop-piece.invariant.counts c.in-Some.ensures.steps in
     record {
       spans = c.in_ok-push_image.ensures.spans;
       counts =
-          CountsSoFar-more c.args.map.now c.loop-piece.images.items _ c.loop-piece.piece-iterator c.next.new.self
-          c.in-Some.piece c.loop-piece.invariant.counts c.in-Some.ensures.steps
+          CountsSoFar-more _ _ _ _ _ _ c.loop-piece.invariant.counts c.in-Some.ensures.steps
           (λ host before. c.in_ok-push_image.ensures.counts c.args.map.now 0 host c.pieces-piece-items.ensures.accepted
           is (omega arith) before);
     }
 
 pub returns : goal.returns
 returns g c =
-    AreImages-sorted c.args.map.now c.loop-piece.images.items _ c.loop-piece.piece-iterator c.next.new.self
-    c.loop-piece.invariant.counts c.in-None.ensures.steps c.loop-piece.invariant.spans
+    AreImages-sorted _ _ _ _ _ c.loop-piece.invariant.counts c.in-None.ensures.steps c.loop-piece.invariant.spans
     c.sort_unstable_by_key.ensures.permutation
     (IsNonDecreasingBy-from_sort_by_key (λ (span : Span). span.first) _ c.sort_unstable_by_key.ensures.sorted
     (λ a r q k. search rules))
-
-pub push_image-requires-clause-order : goal.push_image-requires-clause-order
-push_image-requires-clause-order g c = c.in-Some.ensures.steps.0.order
-
-pub push_image-requires-clause-named : goal.push_image-requires-clause-named
-push_image-requires-clause-named g c = c.in-Some.ensures.steps.0.named
-
-pub push_image-requires-clause-spans : goal.push_image-requires-clause-spans
-push_image-requires-clause-spans g c = c.loop-piece.invariant.spans
 
 pub loop-piece-smaller : goal.loop-piece-smaller
 loop-piece-smaller g c =

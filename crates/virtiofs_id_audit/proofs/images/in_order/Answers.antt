@@ -12,8 +12,7 @@ loop-span-preserved-then-span g c =
 pub loop-span-preserved : goal.loop-span-preserved
 loop-span-preserved g c =
     rw c.in_ok-push.ensures.items
-    (kept_with c.args.spans.now _ c.loop-span.span-index _ c.loop-span-test.true c.loop-span.invariant
-    (c.if-span.false, search rules))
+    (kept_with _ _ _ _ c.loop-span-test.true c.loop-span.invariant (c.if-span.false, search rules))
 
 pub returns-clause-spans : goal.returns-clause-spans
 returns-clause-spans g c =
@@ -27,5 +26,4 @@ returns-clause-firsts g c =
 
 pub returns-clause-hold : goal.returns-clause-hold
 returns-clause-hold g c =
-    kept_sorted c.args.spans.now c.loop-span.sorted.items _ c.loop-span.span-index c.loop-span-test.false
-    c.loop-span.invariant c.sort_unstable_by_key.ensures.permutation
+    kept_sorted _ _ _ _ c.loop-span-test.false c.loop-span.invariant c.sort_unstable_by_key.ensures.permutation

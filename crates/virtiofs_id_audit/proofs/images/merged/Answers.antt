@@ -19,7 +19,6 @@ returns-clause-hold g c =
     IfOk-weaker _
     (λ merged. (id : ℕ) → Hold merged.items id ↔ (Has each id × (¬ Hold c.in_ok-free.free.items id)))
     (λ merged. (id : ℕ) → Hold merged.items id ↔ Hold c.args.spans.now id)
-    (λ merged twice. cut_twice each c.args.spans.now c.in_ok-sorted.sorted.items c.in_ok-free.free.items merged.items
-    refl refl c.in_ok-sorted.ensures.spans c.in_ok-sorted.ensures.hold
+    (λ merged twice. cut_twice _ _ _ _ _ refl refl c.in_ok-sorted.ensures.spans c.in_ok-sorted.ensures.hold
     (rw c.deref.ensures.value at c.in_ok-free.ensures.hold) twice)
     (rw c.deref-2.ensures.value at c.without-2.ensures.hold)

@@ -1,6 +1,4 @@
 use Rattle.std.proofs.Common.{refl, sym, ◌∙◌, arith}
-use Rattle.std.proofs.lemmas.List.Elements.{All-push}
-use Rattle.virtiofs_id_audit.specs.IdAuditParts.{IsSpan}
 use Rattle.virtiofs_id_audit.proofs.ImageLemmas.{counts-forbidden, counts-each, counts-one, counts-two}
 use Rattle.virtiofs_id_audit.proofs.images.push_image.Goals as goal
 
@@ -26,18 +24,3 @@ returns-else-piece-last-clause-counts g c = λ specs low host accepted is up bef
     rw c.in_ok-push-2.ensures.items
     (counts-one specs c.args.piece low host c.args.images.now.items accepted is up before c.in-Some.to _
     (sym c.is_one_to_one.ensures ∙ c.if-is_one_to_one.false) c.in-Some.ensures refl refl (omega arith) (omega arith))
-
-pub returns-in_default-clause-spans : goal.returns-in_default-clause-spans
-returns-in_default-clause-spans g c = c.requires.spans
-
-pub returns-then-last-piece-clause-spans : goal.returns-then-last-piece-clause-spans
-returns-then-last-piece-clause-spans g c = c.requires.spans
-
-pub returns-in_ok-push-3-clause-spans : goal.returns-in_ok-push-3-clause-spans
-returns-in_ok-push-3-clause-spans g c =
-    rw (c.in_ok-push-3.ensures.items, c.in_ok-push-2.ensures.items)
-    (All-push IsSpan _ _ (All-push IsSpan _ _ c.requires.spans (omega arith, omega arith)) (omega arith, omega arith))
-
-pub returns-else-piece-last-clause-spans : goal.returns-else-piece-last-clause-spans
-returns-else-piece-last-clause-spans g c =
-    rw c.in_ok-push-2.ensures.items (All-push IsSpan _ _ c.requires.spans (omega arith, omega arith))

@@ -20,14 +20,12 @@ loop-image-preserved g c =
     elim c.if-from-reached.branch [
       | then-from-reached+in_ok-push w ↦
           rw (w.last-is, w.again-is, w.in_ok-push.ensures.items)
-          (SweptTo-push images c.args.end i c.loop-image.reached c.loop-image.last c.loop-image.again.items image
-          c.loop-image.invariant c.requires.firsts span.0 span.1 inside here c.max-reached.result w.max-last.result
-          _ (omega arith) (omega arith) (omega arith) refl refl)
+          (SweptTo-push _ _ _ _ _ _ _ c.loop-image.invariant c.requires.firsts span.0 span.1 inside here _ _ _
+          (omega arith) (omega arith) (omega arith) refl refl)
       | else-from-reached w ↦
           rw (w.last-is, w.again-is)
-          (SweptTo-pass images c.args.end i c.loop-image.reached c.loop-image.last c.loop-image.again.items image
-          c.loop-image.invariant c.requires.firsts span.0 span.1 inside here c.max-reached.result (omega arith)
-          (omega arith))
+          (SweptTo-pass _ _ _ _ _ _ _ c.loop-image.invariant c.requires.firsts span.0 span.1 inside here _
+          (omega arith) (omega arith))
     ]
 
 pub returns-clause-again : goal.returns-clause-again

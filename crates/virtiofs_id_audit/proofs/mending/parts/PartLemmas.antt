@@ -64,8 +64,7 @@ module _ (spec part : IdMap) (spans : List Span) (span : Span) (parts : List IdM
   pub AreParts-more : AreParts spec (spans ++ span ∷ []) (parts ++ part ∷ [])
   AreParts-more = record {
     count = omega (arith, length-append parts (part ∷ []), length-append spans (span ∷ []), so_far.count);
-    accepted =
-        Accepted-append parts (part ∷ []) so_far.accepted (Accepted-part spec part span source is) keep_apart;
+    accepted = search (rules, Accepted-append, Accepted-part, keep_apart);
     guest = λ n value. (to n value, from n value);
     host = λ n value listed. elim ((Listed-append parts (part ∷ []) HostToGuest n value).0 listed) [
       | inl old ↦ so_far.host n value old
@@ -79,9 +78,7 @@ module _ (spec part : IdMap) (spans : List Span) (span : Span) (parts : List IdM
     ];
   } where
     has_of : (n : ℕ) → Covers part GuestToHost n → Has span n
-    has_of n covered =
-        let (value, maps) = covered_maps part GuestToHost n covered in
-        ((is.guest n value).0 maps).1
+    has_of n covered = search (rules, covered_maps)
 
     covers_of : (n : ℕ) → Has span n → Covers part GuestToHost n
     covers_of n has =

@@ -66,8 +66,6 @@ module _ (spec : IdMap) (entry : Entry) (whole : Span) (bad met : List Span) (ac
   met_covered order some apart meet clean =
       let none : Span = record { first = 0; last = 0 } in
       let span : Span = get_or met 0 none in
-      let is : IsSpan span = apart.some 0 none (omega arith) in
-      let (late, early) = meet 0 none (omega arith) in
       let id : ℕ = max whole.first span.first in
       let within : Has whole id = (omega arith, omega arith) in
       let held : Hold met id =
@@ -98,10 +96,7 @@ module _ (spec : IdMap) (entry : Entry) (whole : Span) (bad met : List Span) (ac
           let (in_whole, not_met) = (keeps n).0 (span, within, has) in
           elim (cases_lt span.last (n + 1)) [
             | inl over ↦ elim (cases_lt whole.last (n + 1)) [
-              | inl past ↦ inl (record {
-                last = within_covers n in_whole;
-                end = λ covers. omega (arith, covers_within (n + 1) covers);
-              })
+              | inl past ↦ inl (search (rules, within_covers, covers_within))
               | inr under ↦ elim (held_or_not met (n + 1)) [
                 | inl is_met ↦ inr (
                   λ is. not_met ((hold n in_whole).1 is),
@@ -169,8 +164,7 @@ module _ (spec : IdMap) (entry : Entry) (whole : Span) (bad met : List Span) (ac
           sources HostToGuest = rw is.host (accepted.source HostToGuest 0 spec (omega arith))
 
           targets : (direction : Direction) → IfSome (entry_of half direction) HasTarget
-          targets GuestToHost = rw is.guest tt
-          targets HostToGuest = rw is.host (accepted.target HostToGuest 0 spec (omega arith))
+          targets direction = search rules
 
         apart : KeepApart parts (half ∷ [])
         apart GuestToHost n value other listed more =
@@ -187,19 +181,14 @@ module _ (spec : IdMap) (entry : Entry) (whole : Span) (bad met : List Span) (ac
           same GuestToHost n value = (
             (λ listed. elim ((Listed-append parts (half ∷ []) GuestToHost n value).0 listed) [
               | inl old ↦ guest_to n value old
-              | inr more ↦ absurd
-                  (maps_nothing half GuestToHost n value is.guest ((Listed-one half GuestToHost n value).0 more))
+              | inr more ↦ search rules
             ]),
             (λ both. (Listed-append parts (half ∷ []) GuestToHost n value).1 (inl (guest_from n value both))),
           )
           same HostToGuest n value = (
             (λ listed. elim ((Listed-append parts (half ∷ []) HostToGuest n value).0 listed) [
               | inl old ↦ absurd (are.host n value old)
-              | inr more ↦ (
-                (Listed-one spec HostToGuest n value).1
-                    ((host_maps n value).0 ((Listed-one half HostToGuest n value).0 more)),
-                tt,
-              )
+              | inr more ↦ search rules
             ]),
             (λ both. (Listed-append parts (half ∷ []) HostToGuest n value).1
                 (inr ((Listed-one half HostToGuest n value).1

@@ -4,34 +4,9 @@ use Rattle.virtiofs_id_audit.proofs.outside.moved.Goals as goal
 
 pub returns-then-past-begin-clause-moves : goal.returns-then-past-begin-clause-moves
 returns-then-past-begin-clause-moves c =
-    moved_none c.args.span c.args.from c.args.to c.args.count c.max-begin.result c.min-past.result
-    (omega (arith, c.ranges.to.fits))
-    (omega (arith, c.max-begin.ensures, c.from.ensures, c.from-from.ensures))
-    (omega (
-      arith,
-      c.min-past.ensures,
-      c.min.ensures,
-      c.min-of_ids.ensures,
-      c.from-to.ensures,
-      c.from-from.ensures,
-      c.from-2.ensures,
-      c.from-3.ensures,
-    )) c.if-past-begin.true
+    moved_none _ _ _ _ _ _ (omega (arith, c.ranges.to.fits)) (omega arith) (omega arith) c.if-past-begin.true
 
 pub returns-clause-moves : goal.returns-clause-moves
 returns-clause-moves c =
-    moved_some c.args.span _ c.args.from c.args.to c.args.count c.max-begin.result c.min-past.result
-    (omega (arith, c.ranges.to.fits))
-    (omega (arith, c.max-begin.ensures, c.from.ensures, c.from-from.ensures))
-    (omega (
-      arith,
-      c.min-past.ensures,
-      c.min.ensures,
-      c.min-of_ids.ensures,
-      c.from-to.ensures,
-      c.from-from.ensures,
-      c.from-2.ensures,
-      c.from-3.ensures,
-    )) c.if-past-begin.false
-    (omega (arith, c.from-to.ensures, c.from-from.ensures))
-    (omega (arith, c.from-to.ensures, c.from-from.ensures))
+    moved_some _ _ _ _ _ _ _ (omega (arith, c.ranges.to.fits)) (omega arith) (omega arith) c.if-past-begin.false
+    (omega arith) (omega arith)

@@ -7,8 +7,7 @@ loop-span-init g c = rw c.new-all.ensures.items (moved_no_span c.args.way c.args
 
 pub loop-span-preserved : goal.loop-span-preserved
 loop-span-preserved g c =
-    moved_one_more c.args.way c.args.ranges.now c.args.spans.now _ _ c.loop-span.span-index _ c.loop-span-test.true
-    c.loop-span.invariant c.in_ok-push_span.ensures
+    moved_one_more c.args.way _ _ _ _ _ _ c.loop-span-test.true c.loop-span.invariant c.in_ok-push_span.ensures
 
 pub returns : goal.returns
 returns g c =

@@ -4,10 +4,8 @@ use Rattle.virtiofs_id_audit.proofs.outside.push_span.Goals as goal
 pub returns-then-is_empty : goal.returns-then-is_empty
 returns-then-is_empty g c =
     rw c.in_ok-push.ensures.items
-    (adds_itself _ c.args.way c.args.ranges.now c.args.span
-    (none_here c.args.ranges.now c.is_empty.result c.is_empty.ensures c.if-is_empty.true))
+    (adds_itself _ c.args.way _ _ (none_here _ _ c.is_empty.ensures c.if-is_empty.true))
 
 pub returns : goal.returns
 returns g c =
-    adds_span _ _ c.args.way c.args.ranges.now c.args.span
-    (some_here c.args.ranges.now c.is_empty.result c.is_empty.ensures c.if-is_empty.false) c.in_ok-push_moved.ensures
+    adds_span _ _ c.args.way _ _ (some_here _ _ c.is_empty.ensures c.if-is_empty.false) c.in_ok-push_moved.ensures

@@ -4,15 +4,13 @@ use Rattle.virtiofs_id_audit.proofs.round_trips.first_astray.Goals as goal
 
 pub returns-in-Some : goal.returns-in-Some
 returns-in-Some g c =
-    IsAstray-least c.args.map.now c.round_trip-trip.result c.loop-next.next c.in-Some.n
-    c.round_trip-trip.ensures.accepted c.loop-next.invariant c.round_trip-trip.ensures.returns
+    IsAstray-least _ _ _ _ c.round_trip-trip.ensures.accepted c.loop-next.invariant c.round_trip-trip.ensures.returns
     c.round_trip-trip.ensures.first (omega arith) c.in-Some.ensures
 
 pub loop-next-preserved : goal.loop-next-preserved
 loop-next-preserved g c =
-    ComeBackBelow-more c.args.map.now c.round_trip-trip.result c.loop-next.next _ c.round_trip-trip.ensures.accepted
-    c.loop-next.invariant c.round_trip-trip.ensures.returns c.round_trip-trip.ensures.first (omega arith)
-    c.in_default.ensures
+    ComeBackBelow-more _ _ _ _ c.round_trip-trip.ensures.accepted c.loop-next.invariant
+    c.round_trip-trip.ensures.returns c.round_trip-trip.ensures.first (omega arith) c.in_default.ensures
 
 pub returns : goal.returns
 returns g c = ComesBack-all c.args.map.now _ c.loop-next.invariant c.loop-next-test.false

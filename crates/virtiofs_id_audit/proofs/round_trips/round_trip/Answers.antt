@@ -22,30 +22,12 @@ returns-then-is_one_to_one-clause-returns g c =
 
 pub returns-else-is_one_to_one-clause-returns : goal.returns-else-is_one_to_one-clause-returns
 returns-else-is_one_to_one-clause-returns g c =
-    ReturnsBy-each c.args.map.now c.stretch-there.result c.stretch-back.result _ c.args.n c.in-Some.host _
-    (λ (k : ℕ). Some c.in-Some-start.to) c.stretch-there.ensures.stretch c.stretch-back.ensures.stretch
-    c.stretch-there.ensures.first c.stretch-back.ensures.first
+    ReturnsBy-each _ _ _ _ _ _ _ (λ (k : ℕ). Some c.in-Some-start.to) c.stretch-there.ensures.stretch
+    c.stretch-back.ensures.stretch c.stretch-there.ensures.first c.stretch-back.ensures.first
     (sym c.is_one_to_one.ensures ∙ c.if-not-is_one_to_one.false) c.in-Some.ensures (omega arith) (omega arith)
-    (λ k from to. back-all c.stretch-back.result c.in-Some-start.to c.in-Some.host (k - c.args.n)
-    (sym c.is_one_to_one-2.ensures ∙ c.if-is_one_to_one.false) c.stretch-back.ensures.stretch.named
-    c.in-Some-start.ensures)
-    c.all_to_one-else-is_one_to_one.ensures
+    (λ k from to. back-all _ _ _ _ (sym c.is_one_to_one-2.ensures ∙ c.if-is_one_to_one.false)
+    c.stretch-back.ensures.stretch.named c.in-Some-start.ensures) c.all_to_one-else-is_one_to_one.ensures
 
 pub returns-in_default-clause-returns : goal.returns-in_default-clause-returns
 returns-in_default-clause-returns g c =
     ReturnsBy-forbidden c.args.map.now c.stretch-there.result c.stretch-there.ensures.stretch c.in_default.ensures
-
-pub returns-in_default-clause-named : goal.returns-in_default-clause-named
-returns-in_default-clause-named g c = c.stretch-there.ensures.stretch.named
-
-pub returns-then-not-is_one_to_one-clause-named : goal.returns-then-not-is_one_to_one-clause-named
-returns-then-not-is_one_to_one-clause-named g c =
-    rw (c.all_to_one.ensures.first_is, c.all_to_one.ensures.last_is) c.all_to_one.ensures.named
-
-pub returns-then-is_one_to_one-clause-named : goal.returns-then-is_one_to_one-clause-named
-returns-then-is_one_to_one-clause-named g c =
-    rw (c.one_to_one.ensures.first_is, c.one_to_one.ensures.last_is) c.one_to_one.ensures.named
-
-pub returns-else-is_one_to_one-clause-named : goal.returns-else-is_one_to_one-clause-named
-returns-else-is_one_to_one-clause-named g c =
-    let made = c.all_to_one-else-is_one_to_one.ensures in rw (made.first_is, made.last_is) made.named

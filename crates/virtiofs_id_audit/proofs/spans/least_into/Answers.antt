@@ -4,26 +4,17 @@ use Rattle.virtiofs_id_audit.proofs.spans.least_into.Goals as goal
 
 pub returns-in-Some-least_of-clause-least : goal.returns-in-Some-least_of-clause-least
 returns-in-Some-least_of-clause-least g c =
-    NoneSoFar-found c.args.map.now c.args.spans.now c.args.from c.in-Some-least_of.n c.loop-piece.piece-iterator
-    c.next.new.self c.in-Some.piece c.pieces_from-piece-items.ensures.accepted c.loop-piece.invariant
+    NoneSoFar-found _ _ _ _ _ _ _ c.pieces_from-piece-items.ensures.accepted c.loop-piece.invariant
     c.in-Some.ensures.steps c.in-Some-least_of.ensures
 
 pub loop-piece-preserved : goal.loop-piece-preserved
 loop-piece-preserved g c =
-    NoneSoFar-more c.args.map.now c.args.spans.now c.args.from c.loop-piece.piece-iterator c.next.new.self
-    c.in-Some.piece c.pieces_from-piece-items.ensures.accepted c.loop-piece.invariant c.in-Some.ensures.steps
-    c.in_default.ensures
+    NoneSoFar-more _ _ _ _ _ _ c.pieces_from-piece-items.ensures.accepted c.loop-piece.invariant
+    c.in-Some.ensures.steps c.in_default.ensures
 
 pub returns-clause-least : goal.returns-clause-least
 returns-clause-least g c =
-    NoneSoFar-end c.args.map.now _ c.args.from c.loop-piece.piece-iterator c.next.new.self c.loop-piece.invariant
-    c.in-None.ensures.steps
-
-pub least_of-requires-clause-order : goal.least_of-requires-clause-order
-least_of-requires-clause-order g c = c.in-Some.ensures.steps.0.order
-
-pub least_of-requires-clause-named : goal.least_of-requires-clause-named
-least_of-requires-clause-named g c = c.in-Some.ensures.steps.0.named
+    NoneSoFar-end _ _ _ _ _ c.loop-piece.invariant c.in-None.ensures.steps
 
 pub loop-piece-smaller : goal.loop-piece-smaller
 loop-piece-smaller g c =

@@ -1,6 +1,6 @@
 -- The printed form of a specification is a text that says it.
-use Rattle.std.proofs.Common.{◌≡◌, ℕ, ◌^◌, ◌<◌, true, false, List, [], ◌∷◌, ◌++◌, All, flat_map, codes, refl, sym, ap}
-use Rattle.std.proofs.Common.{◌∙◌, subst, arith, decimal, chars, IsAscii, append-nil, rules}
+use Rattle.std.proofs.Common.{◌≡◌, ℕ, ◌^◌, ◌<◌, true, false, List, [], ◌∷◌, ◌++◌, All, flat_map, codes, refl, sym}
+use Rattle.std.proofs.Common.{subst, arith, decimal, chars, IsAscii, append-nil, rules}
 use Rattle.std.specs.List.{AllZip, list_all}
 use Rattle.std.proofs.lemmas.Fmt.{IsAscii-decimal}
 use Rattle.std.proofs.lemmas.List.Elements.{All-head, All-tail}
@@ -40,16 +40,12 @@ after_colons ns = flat_map (λ n. codes ":" ++ decimal n) ns
 AllZip-fields : (n : ℕ) (ns : List ℕ) → All (λ m. m < 2 ^ 32) (n ∷ ns)
     → AllZip IsNumeral (split_at_each 58 (decimal n ++ after_colons ns)) (n ∷ ns)
 AllZip-fields n [] small =
-    let below : n < 2 ^ 32 = All-head (λ m. m < 2 ^ 32) n [] small in
-    let one : split_at_each 58 (decimal n ++ []) ≡ decimal n ∷ [] = ap (split_at_each 58) (append-nil (decimal n))
-    ∙ split_at_each-last 58 (decimal n) (decimal_lacks_colon n below) in
-    subst (λ (fs : List (List ℕ)). AllZip IsNumeral fs (n ∷ [])) (sym one) (IsNumeral-decimal n below, tt)
+    grind (arith, All-head, append-nil, split_at_each-last, decimal_lacks_colon, IsNumeral-decimal)
 AllZip-fields n (m ∷ ns) small =
     let below : n < 2 ^ 32 = All-head (λ m. m < 2 ^ 32) n (m ∷ ns) small in
     let cut : split_at_each 58 (decimal n ++ after_colons (m ∷ ns)) ≡ decimal n ∷ split_at_each 58
     (decimal m ++ after_colons ns) =
-    split_at_each-cut 58 (decimal n ++ after_colons (m ∷ ns)) (decimal n) (decimal m ++ after_colons ns) refl
-    (decimal_lacks_colon n below) in
+    search (rules, split_at_each-cut, decimal_lacks_colon) in
     subst (λ (fs : List (List ℕ)). AllZip IsNumeral fs (n ∷ m ∷ ns)) (sym cut)
     (IsNumeral-decimal n below, AllZip-fields m ns (All-tail (λ m. m < 2 ^ 32) n (m ∷ ns) small))
 
@@ -74,14 +70,13 @@ Says-parts spec n ns are small = record {
   separator = 58;
   rest = decimal n ++ after_colons ns;
   cut = record {
-    whole = chars-printed spec small ∙ ap (λ (ms : List ℕ). word_of spec ++ after_colons ms) are;
+    whole = grind (arith, chars-printed, after_colons);
     word = AllPass-from_list_all is_word_character (word_of spec) (all_word spec);
     ends = colon_ends;
   };
   word = lowered-word_of spec;
   numbers =
-      subst (λ (ms : List ℕ). AllZip IsNumeral (split_at_each 58 (decimal n ++ after_colons ns)) ms) (sym are)
-      (AllZip-fields n ns (subst (λ (ms : List ℕ). All (λ m. m < 2 ^ 32) ms) are small));
+      grind (arith, after_colons, AllZip-fields);
 }
 
 pub Says-printed : (spec : IdMap) → All (λ n. n < 2 ^ 32) (numbers_of spec)

@@ -7,7 +7,7 @@ use Rattle.std.proofs.lemmas.Str.Ascii.{IsAscii-nil, IsAscii-cons}
 use Rattle.unicode.proofs.CategoryComputing.{ucd_category}
 use Rattle.unicode.proofs.DerivedComputing.{ucd_derived}
 use Rattle.virtiofs_map.specs.Alphanumeric.{is_alphanumeric}
-use Rattle.virtiofs_map.specs.NamespaceText.{IsField, SaysNamespace}
+use Rattle.virtiofs_map.specs.NamespaceText.{SaysNamespace}
 use Rattle.virtiofs_map.specs.Printed.{namespace_text}
 use Rattle.virtiofs_map.proofs.NumeralLemmas.{decimal_lacks_colon, IsNumeral-decimal}
 
@@ -15,10 +15,6 @@ use Rattle.virtiofs_map.proofs.NumeralLemmas.{decimal_lacks_colon, IsNumeral-dec
 pub colon_delimits : is_alphanumeric 58 ≡ false
 unfolding is_alphanumeric ucd_derived ucd_category
 colon_delimits = refl
-
--- a number in decimal, between colons
-field_decimal : (n : ℕ) → n < 2 ^ 32 → IsField 58 (decimal n) n
-field_decimal n small = search (rules, decimal, IsNumeral-decimal, decimal_lacks_colon)
 
 IsAscii-colon : IsAscii (codes ":")
 IsAscii-colon = IsAscii-cons 58 [] (omega arith) IsAscii-nil
@@ -34,4 +30,4 @@ IsAscii-namespace_text a b c small_a small_b small_c = search (rules, codes, dec
 pub SaysNamespace-printed : (a b c : ℕ) → a < 2 ^ 32 → b < 2 ^ 32 → c < 2 ^ 32
     → SaysNamespace (chars (namespace_text a b c)) a b c
 SaysNamespace-printed a b c small_a small_b small_c =
-    search (rules, decimal, chars-IsAscii, IsAscii-namespace_text, append_assoc, colon_delimits, field_decimal)
+    grind (arith, chars-IsAscii, IsAscii-namespace_text, append_assoc, colon_delimits, IsNumeral-decimal, decimal_lacks_colon)

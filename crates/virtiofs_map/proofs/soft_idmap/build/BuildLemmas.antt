@@ -28,8 +28,7 @@ Accepted-push xs x accepted fits = record {
       λ direction. All-push (λ spec. IfSome (entry_of spec direction) HasTarget) xs x (accepted.target direction)
       (fits direction).target;
   apart = λ direction. all_pairs_push (λ spec other. ¬ Meet spec other direction) xs x (accepted.apart direction)
-      (λ k d below meet. (fits direction).apart
-      (get_or xs k d, Contains-get_or xs k d below, (meet.0, meet.2, meet.1)));
+      (grind (arith, Contains-get_or));
 }
 
 pub Accepted-more : (specs : List IdMap) (i : ℕ) (d : IdMap) → i < length specs → Accepted (take i specs)
@@ -37,8 +36,7 @@ pub Accepted-more : (specs : List IdMap) (i : ℕ) (d : IdMap) → i < length sp
     → Accepted (take (i + 1) specs)
 Accepted-more specs i d below accepted guest host =
     rw (take_more specs i d below)
-    (Accepted-push (take i specs) (get_or specs i d) accepted
-    (both (λ direction. Fits (take i specs) (get_or specs i d) direction) guest host))
+    (search (rules, Accepted-push, both))
 
 -- a specification after accepted ones is reached
 reached : (specs : List IdMap) (i : ℕ) (d : IdMap) (direction : Direction) → i < length specs → Accepted (take i specs)

@@ -44,24 +44,21 @@ AreIndexed-add specs direction i d entry indexed within is some are_indexed =
     let here : get_or specs i (get_or specs i d) ≡ get_or specs i d =
     get_or_default specs i (get_or specs i d) d within in
     let indexed_here : IsIndexed specs direction one =
-    record { spec = get_or specs i d; here = (within, here); sets_up = is; counted = some } in
+    grind arith in
     record {
       from = All-push (λ (one : IndexedEntry). IsIndexed specs direction one × (one.index < i + 1)) indexed one
           (weaker specs direction i indexed are_indexed.from) (indexed_here, omega arith);
       each = each one;
       once = all_pairs_push (λ (one other : IndexedEntry). one.index ≢ other.index) indexed one are_indexed.once
           (λ k e below same. omega (arith, (are_indexed.from k e below).1));
-      counted = length_push indexed one ∙ ap (λ (n : ℕ). n + 1) are_indexed.counted
-          ∙ sym (count_by_more_yes (λ (spec : IdMap). covers_some (entry_of spec direction)) specs i d within
-          (covers (entry_of (get_or specs i d) direction) entry is some));
+      counted = grind (arith, length_push, count_by_more_yes, covers);
     } where
       each : (one : IndexedEntry) → (index : ℕ) (spec : IdMap) (own : Entry) → index < i + 1 → StandsAt specs index spec
           → entry_of spec direction ≡ Some own → 1 ≤ count_of own
           → Contains (indexed ++ (record { entry = entry; index = i }) ∷ []) (record { entry = own; index = index })
       each one index spec own below stands_at sets_up many =
           elim (cases_lt index i) [
-            | inl before ↦ Contains-append_left indexed ((record { entry = entry; index = i }) ∷ [])
-                (record { entry = own; index = index }) (are_indexed.each index spec own before stands_at sets_up many)
+            | inl before ↦ grind (arith, Contains-append_left)
             | inr from ↦ last (omega arith)
           ] where
             last : index ≡ i
@@ -71,7 +68,7 @@ AreIndexed-add specs direction i d entry indexed within is some are_indexed =
                 let there : get_or specs i spec ≡ spec = ap (λ (k : ℕ). get_or specs k spec) (sym same) ∙ stands_at.1 in
                 let spec_is : get_or specs i d ≡ spec = stands specs i d spec within there in
                 let entry_is : entry ≡ own =
-                same_Some entry own (sym is ∙ ap (λ (s : IdMap). entry_of s direction) spec_is ∙ sets_up) in
+                grind (arith, same_Some) in
                 rw (same, ← entry_is) (Contains-push indexed (record { entry = entry; index = i }))
 
 pub AreIndexed-pass : (specs : List IdMap) (direction : Direction) (i : ℕ) (d : IdMap) (indexed : List IndexedEntry)
@@ -96,8 +93,7 @@ AreIndexed-no_entry specs direction i d indexed within is are_indexed =
 pub AreIndexed-permutation : (specs : List IdMap) (direction : Direction) (count : ℕ) (indexed others : List IndexedEntry)
     → IsPermutation indexed others → AreIndexed specs direction count indexed → AreIndexed specs direction count others
 AreIndexed-permutation specs direction count indexed others permutation are_indexed = record {
-  from = All-permutation (λ (one : IndexedEntry). IsIndexed specs direction one × (one.index < count)) indexed others
-      permutation are_indexed.from;
+  from = search (rules, All-permutation);
   each = λ index spec entry below here is some. Contains-permutation indexed others
       (record { entry = entry; index = index }) permutation (are_indexed.each index spec entry below here is some);
   once = AllPairs-permutation (λ (one other : IndexedEntry). one.index ≢ other.index)

@@ -26,7 +26,7 @@ range_at specs direction table at range has inside is =
     let here : slice_get has.ranges at ≡ Some (get_or has.ranges at range) =
     slice_get-get_or has.ranges at range (omega arith) in
     here ∙ ap (λ (r : Entry). Some r)
-    (sym (is (get_or has.ranges at range) (has.stand.each at (get_or has.ranges at range) here)))
+    (grind arith)
 
 stored : (ranges : List Entry) (at : ℕ) (range : Entry) → slice_get ranges at ≡ Some range → Contains ranges range
 stored ranges at range here = search (rules, slice_get_within, get_or_from_slice_get)
@@ -71,10 +71,7 @@ before_covers ranges n end k j range ordered within ends from below here covers 
           rw here at (ordered j (end - 1) range earlier (omega arith)) in
           omega (arith, covers)
       | inr later ↦
-          let at_last : end - 1 ≡ j = omega arith in
-          let is : last ≡ range = ap (λ (i : ℕ). get_or ranges i range) at_last ∙ here in
-          let ended' : first_of range + count_of range ≤ n = rw is at ended in
-          omega (arith, covers)
+          grind arith
     ]
 
 -- the next range begins above the number, and those after it too
@@ -89,10 +86,7 @@ after_covers ranges end k j range ordered above from inside here covers =
           rw here at (ordered end j range later inside) in
           omega (arith, next, covers)
       | inr earlier ↦
-          let same : end ≡ j = omega arith in
-          let is : get_or ranges end range ≡ range = ap (λ (i : ℕ). get_or ranges i range) same ∙ here in
-          let next' : k < first_of range = rw is at next in
-          omega (arith, covers)
+          grind arith
     ]
 
 pub IsStretch-kept : (specs : List IdMap) (direction : Direction) (table : Table) (n end : ℕ) (piece : Piece)
@@ -160,7 +154,7 @@ pub IsStretch-after : (specs : List IdMap) (direction : Direction) (table : Tabl
 IsStretch-after specs direction table n index range piece has inside here begins beyond next first order within kept =
     let back : index + 1 - 1 ≡ index = omega arith in
     IsStretch-kept specs direction table n (index + 1) piece has (omega arith)
-    (λ last some is. rw (same_Some _ _ (sym here ∙ rw back at is)) at (ends_before range n begins beyond)) next first
+    (grind (arith, same_Some, ends_before)) next first
     order within kept
 
 -- the next range begins above the number

@@ -1,6 +1,6 @@
 -- The order of patterns by the numbers of their first bytes is that of their bytes.
 use Rattle.std.proofs.Common.{◌≡◌, ◌⊎◌, ℕ, ◌+◌, ◌-◌, ◌<◌, ◌≤◌, false, List, length, take, drop, get_or, inl, inr, sym}
-use Rattle.std.proofs.Common.{ap, subst, ◌∙◌, arith, w64, All, IsSortedBy, nat_cmp, is_lt, true≢false, get_or-take}
+use Rattle.std.proofs.Common.{ap, subst, ◌∙◌, arith, w64, All, IsSortedBy, nat_cmp, is_lt, get_or-take}
 use Rattle.std.proofs.Common.{get_or-drop, take-take, rules}
 use Rattle.std.specs.Cmp.Lexicographic.{slice_cmp, nat_list_cmp_total}
 use Rattle.std.specs.Int.{from_be_bytes}
@@ -47,15 +47,14 @@ word_step depth xs ys rest bytes same order = by (cases_lt depth 8) where
     first : (get_or ys depth 0 < get_or xs depth 0) ⊎ (get_or xs depth 0 ≤ get_or ys depth 0)
         → get_or xs depth 0 ≤ get_or ys depth 0
     first (inl lesser) =
-        absurd (true≢false
-        (sym (less (word_of ys) (word_of xs) rest (lesser_word depth ys xs few bytes (sym same) lesser)) ∙ order))
+        absurd (grind (arith, less, lesser_word))
     first (inr above) = above
   by (inr many) =
       let eight : take 8 xs ≡ take 8 ys =
       sym (take-take 8 depth xs many) ∙ ap (take 8) same ∙ take-take 8 depth ys many in
       let word : word_of xs ≡ word_of ys = same_word xs ys eight in
       let here : is_lt (ordering_then (nat_cmp (word_of ys) (word_of ys)) rest) ≡ false =
-      subst (λ (n : ℕ). is_lt (ordering_then (nat_cmp (word_of ys) n) rest) ≡ false) word order in
+      grind (arith, is_lt, nat_cmp) in
       inr (many, sym (level (word_of ys) rest) ∙ here)
 
 -- ---- two numbers, and then all bytes
@@ -68,8 +67,7 @@ later_key : (depth : ℕ) (xs ys : List ℕ) → AreBytes ys → take depth xs �
     (ordering_then (nat_cmp (word_of (drop 8 ys)) (word_of (drop 8 xs))) (slice_cmp nat_cmp ys xs))) ≡ false
     → get_or xs depth 0 ≤ get_or ys depth 0
 later_key depth xs ys bytes same order =
-    by (word_step depth xs ys (ordering_then (nat_cmp (word_of (drop 8 ys)) (word_of (drop 8 xs))) (slice_cmp nat_cmp ys xs))
-    bytes same order) where
+    by (search (rules, word_step)) where
       by : (get_or xs depth 0 ≤ get_or ys depth 0) ⊎ ((8 ≤ depth)
           × (is_lt (ordering_then (nat_cmp (word_of (drop 8 ys)) (word_of (drop 8 xs))) (slice_cmp nat_cmp ys xs)) ≡ false))
           → get_or xs depth 0 ≤ get_or ys depth 0
@@ -79,7 +77,7 @@ later_key depth xs ys bytes same order =
           let rest : take (depth - 8) (drop 8 xs) ≡ take (depth - 8) (drop 8 ys) =
           sym (drop-take 8 (depth - 8) xs) ∙ ap (λ n. drop 8 (take n xs)) (sym more) ∙ ap (drop 8) same
           ∙ ap (λ n. drop 8 (take n ys)) more ∙ drop-take 8 (depth - 8) ys in
-          next_word (word_step (depth - 8) (drop 8 xs) (drop 8 ys) (slice_cmp nat_cmp ys xs) (bytes_after 8 ys bytes) rest next)
+          next_word (search (rules, word_step, bytes_after))
         where
           next_word : (get_or (drop 8 xs) (depth - 8) 0 ≤ get_or (drop 8 ys) (depth - 8) 0)
               ⊎ ((8 ≤ depth - 8) × (is_lt (slice_cmp nat_cmp ys xs) ≡ false))
@@ -112,10 +110,7 @@ AreInOrder-keyed patterns each sorted = record {
       sorted_far (λ (a b : Pattern). is_lt (slice_cmp nat_cmp (key_of a) (key_of b)))
       (ranks_by nat_list_cmp_total key_of) patterns sorted i j one (omega arith) inside in
       let order : is_lt (slice_cmp nat_cmp (key_of other) (key_of one)) ≡ false =
-      subst (λ (k : Pattern). is_lt (slice_cmp nat_cmp (key_of other) (key_of k)) ≡ false) is_one
-      (subst (λ (k : Pattern). is_lt (slice_cmp nat_cmp (key_of k) (key_of (get_or patterns i one))) ≡ false)
-      is_other far) in
+      grind (arith, is_lt, nat_cmp) in
       later_keyed depth one other (All-contains IsKeyed patterns one each (i, within, is_one))
-      (All-contains IsKeyed patterns other each
-      (j, inside, get_or_from_slice_get patterns j other other there)) same order;
+      (grind (arith, All-contains, get_or_from_slice_get)) same order;
 }

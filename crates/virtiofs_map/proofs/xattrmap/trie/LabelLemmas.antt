@@ -1,9 +1,9 @@
 -- What texts that begin with a path go on with.
-use Rattle.std.proofs.Common.{◌≡◌, ℕ, ◌<◌, ◌≤◌, Bool, true, ◌||◌, cond, eqb, List, [], ◌∷◌, ◌++◌, length, take, drop}
-use Rattle.std.proofs.Common.{refl, sym, ap, subst, ◌∙◌, arith, append_assoc, append-nil, Some, inl, inr, rules}
+use Rattle.std.proofs.lemmas.Grind.{common_steps}
+use Rattle.std.proofs.Common.{◌≡◌, ℕ, ◌<◌, ◌≤◌, Bool, true, ◌||◌, List, [], ◌∷◌, ◌++◌, length, take, drop}
+use Rattle.std.proofs.Common.{refl, sym, ap, ◌∙◌, arith, append_assoc, append-nil, Some, inl, inr, rules}
 use Rattle.std.specs.List.{filter, fold, list_any, slice_get, AllByRecursion}
-use Rattle.std.proofs.lemmas.Bool.{cases_Bool, cases_lt, cond_both, and_from, and_parts, eqb-true, true≢false}
-use Rattle.std.proofs.lemmas.Bool.Decides.{Decides-eqb}
+use Rattle.std.proofs.lemmas.Bool.{cases_Bool, cases_lt, true≢false}
 use Rattle.std.proofs.lemmas.List.{take-append-drop, length-take, take_at, take_all, drop_at}
 use Rattle.virtiofs_map.specs.Names.{begins}
 use Rattle.virtiofs_map.specs.PatternTrie.{leads, common_of_two, common, label_after}
@@ -15,25 +15,19 @@ use Rattle.virtiofs_map.proofs.xattrmap.trie.LevelOrderLemmas.{all_at}
 begins_take : (front rest : List ℕ) (n : ℕ) → begins (front ++ take n rest) (front ++ rest) ≡ true
 begins_take front rest n =
     begins_from (front ++ take n rest) (front ++ rest) (drop n rest)
-    (ap (λ m. front ++ m) (sym (take-append-drop n rest)) ∙ sym (append_assoc front (take n rest) (drop n rest)))
+    (grind (arith, take-append-drop, append_assoc))
 
 -- ---- what texts begin with
 
 of_two_one : (one other : List ℕ) → begins (common_of_two one other) one ≡ true
 of_two_one [] other = refl
 of_two_one (x ∷ one) [] = refl
-of_two_one (x ∷ one) (y ∷ other) =
-    cond_both (eqb x y) (x ∷ common_of_two one other) [] (λ c. begins c (x ∷ one) ≡ true)
-    (λ e. and_from (eqb x x) (begins (common_of_two one other) one) ((Decides-eqb x x).1 refl) (of_two_one one other))
-    (λ _. refl)
+of_two_one (x ∷ one) (y ∷ other) = grind (arith, of_two_one one other)
 
 of_two_other : (one other : List ℕ) → begins (common_of_two one other) other ≡ true
 of_two_other [] other = refl
 of_two_other (x ∷ one) [] = refl
-of_two_other (x ∷ one) (y ∷ other) =
-    cond_both (eqb x y) (x ∷ common_of_two one other) [] (λ c. begins c (y ∷ other) ≡ true)
-    (λ e. and_from (eqb x y) (begins (common_of_two one other) other) e (of_two_other one other))
-    (λ _. refl)
+of_two_other (x ∷ one) (y ∷ other) = grind (arith, of_two_other one other)
 
 -- what begins both begins what they begin with
 of_two_most : (front one other : List ℕ) → begins front one ≡ true → begins front other ≡ true
@@ -41,12 +35,7 @@ of_two_most : (front one other : List ℕ) → begins front one ≡ true → beg
 of_two_most [] one other a b = refl
 of_two_most (z ∷ front) [] other a b = absurd (true≢false (sym a))
 of_two_most (z ∷ front) (x ∷ one) [] a b = absurd (true≢false (sym b))
-of_two_most (z ∷ front) (x ∷ one) (y ∷ other) a b =
-    let first = and_parts (eqb z x) (begins front one) a in
-    let second = and_parts (eqb z y) (begins front other) b in
-    let same : x ≡ y = sym (eqb-true z x first.0) ∙ eqb-true z y second.0 in
-    subst (λ t. begins (z ∷ front) (cond t (x ∷ common_of_two one other) []) ≡ true) (sym ((Decides-eqb x y).1 same))
-    (and_from (eqb z x) (begins front (common_of_two one other)) first.0 (of_two_most front one other first.1 second.1))
+of_two_most (z ∷ front) (x ∷ one) (y ∷ other) a b = grind (arith, of_two_most front one other)
 
 -- the same of any number of texts
 abbrev pub AllBegin : List ℕ → List (List ℕ) → Type 0
@@ -58,10 +47,7 @@ all_fold text [] = (begins_from text text [] (sym (append-nil text)), tt)
 all_fold text (other ∷ texts) =
     let both = common_of_two text other in
     let more = all_fold both texts in
-    let all = fold common_of_two both texts in (
-      begins_trans all both text more.0 (of_two_one text other),
-      (begins_trans all both other more.0 (of_two_other text other), more.1),
-    )
+    let all = fold common_of_two both texts in (grind (arith, begins_trans, of_two_one, of_two_other))
 
 pub all_common : (texts : List (List ℕ)) → AllBegin (common texts) texts
 unfolding common
@@ -84,58 +70,35 @@ common_most front text texts all = fold_most front text texts all.0 all.1
 -- all that are left begin with it
 pub all_left : (front : List ℕ) (texts : List (List ℕ)) → AllBegin front (filter (begins front) texts)
 all_left front [] = tt
-all_left front (text ∷ texts) =
-    cond_both (begins front text) (text ∷ filter (begins front) texts) (filter (begins front) texts) (AllBegin front)
-    (λ e. (e, all_left front texts)) (λ _. all_left front texts)
+all_left front (text ∷ texts) = grind (arith, all_left front texts)
 
 -- what holds of those that are left holds of each that begins with it
 pub of_left : (P : List ℕ → Type 0) (front : List ℕ) (texts : List (List ℕ)) → AllByRecursion P (filter (begins front) texts)
     → AllByRecursion (λ text. begins front text ≡ true → P text) texts
 of_left P front [] all = tt
-of_left P front (text ∷ texts) all = elim (cases_Bool (begins front text)) [
-  | inl e ↦ (let here = subst (λ b. AllByRecursion P (cond b (text ∷ filter (begins front) texts)
-      (filter (begins front) texts))) e all in
-      ((λ _. here.0), of_left P front texts here.1))
-  | inr e ↦ (let later = subst (λ b. AllByRecursion P (cond b (text ∷ filter (begins front) texts)
-      (filter (begins front) texts))) e all in
-      ((λ t. absurd (true≢false (sym t ∙ e))), of_left P front texts later))
-]
+of_left P front (text ∷ texts) all = grind (arith, of_left P front texts)
 
 -- where one text begins with the front, all of them begin with what comes after it too
 common_begun : (front : List ℕ) (left : List (List ℕ)) → AllBegin front left → (left ≡ [] → ⊥)
     → common left ≡ front ++ drop (length front) (common left)
 common_begun front [] all some = absurd (some refl)
-common_begun front (text ∷ left) all some =
-    begins_split front (common (text ∷ left)) (common_most front text left all)
+common_begun front (text ∷ left) all some = grind (arith, begins_split, common_most)
 
 some_left : (front : List ℕ) (texts : List (List ℕ)) → leads texts front ≡ true
     → filter (begins front) texts ≡ [] → ⊥
 unfolding leads
 some_left front [] led none = true≢false (sym led)
-some_left front (text ∷ texts) led none = elim (cases_Bool (begins front text)) [
-  | inl e ↦ (let is = ap (λ b. cond b (text ∷ filter (begins front) texts) (filter (begins front) texts)) e in
-      let never : text ∷ filter (begins front) texts ≡ [] = sym is ∙ none in cc)
-  | inr e ↦ some_left front texts (sym (ap (λ b. b || list_any (begins front) texts) e) ∙ led)
-      (sym (ap (λ b. cond b (text ∷ filter (begins front) texts) (filter (begins front) texts)) e) ∙ none)
-]
+some_left front (text ∷ texts) led none = grind (arith, some_left front texts)
 
 module _ (most : ℕ) (texts : List (List ℕ)) (front : List ℕ) (led : leads texts front ≡ true) where
   label_begins : begins (front ++ label_after most texts front) (common (filter (begins front) texts)) ≡ true
   unfolding label_after
-  label_begins =
-      let left = filter (begins front) texts in
-      let whole = common_begun front left (all_left front texts) (some_left front texts led) in
-      subst (λ w. begins (front ++ take most (drop (length front) (common left))) w ≡ true) (sym whole)
-      (begins_take front (drop (length front) (common left)) most)
+  label_begins = grind (arith, common_steps, common_begun, all_left, some_left, begins_take)
 
   all_through : (left : List (List ℕ)) → AllBegin (common (filter (begins front) texts)) left
       → AllBegin (front ++ label_after most texts front) left
   all_through [] all = tt
-  all_through (text ∷ left) all = (
-    begins_trans (front ++ label_after most texts front) (common (filter (begins front) texts)) text label_begins
-        all.0,
-    all_through left all.1,
-  )
+  all_through (text ∷ left) all = grind (arith, all_through left all.1, begins_trans, label_begins)
 
   -- each text that begins with the front goes on with the label
   pub whole_label : AllByRecursion (λ text. begins front text ≡ true
@@ -157,9 +120,7 @@ any_more p q (text ∷ texts) all some = elim (cases_Bool (p text)) [
 left_all : (P : List ℕ → Type 0) (front : List ℕ) (texts : List (List ℕ))
     → AllByRecursion (λ text. begins front text ≡ true → P text) texts → AllByRecursion P (filter (begins front) texts)
 left_all P front [] all = tt
-left_all P front (text ∷ texts) all =
-    cond_both (begins front text) (text ∷ filter (begins front) texts) (filter (begins front) texts) (AllByRecursion P)
-    (λ e. (all.0 e, left_all P front texts all.1)) (λ _. left_all P front texts all.1)
+left_all P front (text ∷ texts) all = grind (arith, left_all P front texts all.1)
 
 -- some of the texts: one that begins with the front
 pub record IsText (texts : List (List ℕ)) (front text : List ℕ) : Type 0 where

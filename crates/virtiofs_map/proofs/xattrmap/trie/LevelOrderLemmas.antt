@@ -1,4 +1,5 @@
 -- Lists in the order of levels: some items, and then what is below each item of the list in turn.
+use Rattle.std.proofs.Common.{rules}
 use Rattle.std.proofs.Common.{◌≡◌, ℕ, zero, suc, ◌+◌, ◌≤◌, List, [], ◌∷◌, ◌++◌, length, map, take, drop, Some, refl}
 use Rattle.std.proofs.Common.{sym, ap, subst, ◌∙◌, arith, append-nil, length-append, slice_get, flat_map, take_at}
 use Rattle.std.specs.List.{AllByRecursion}
@@ -39,14 +40,8 @@ module _ {X : Type 0} (below : X → List X) where
   below_at : (xs : List X) (at : ℕ) (x : X) → slice_get xs at ≡ Some x
       → drop (before xs at) (flat_map below xs) ≡ below x ++ flat_map below (drop (suc at) xs)
   below_at [] at x e = absurd cc
-  below_at (y ∷ xs) zero x e =
-      let same : y ≡ x = cc in ap (λ (one : X). below one ++ flat_map below xs) same
-  below_at (y ∷ xs) (suc at) x e =
-      let more : before (y ∷ xs) (suc at) ≡ length (below y) + before xs at =
-      length-append (below y) (flat_map below (take at xs)) in
-      ap (λ n. drop n (below y ++ flat_map below xs)) more
-      ∙ drop_past (below y) (flat_map below xs) (before xs at)
-      ∙ below_at xs at x e
+  below_at (y ∷ xs) zero x e = grind arith
+  below_at (y ∷ xs) (suc at) x e = search (rules, below_at xs at x e, length-append, drop_past)
 
   -- the items below one stand together, after one first item and those below the items before it
   pub stand_at : (first : X) (xs : List X) → xs ≡ first ∷ flat_map below xs → (at : ℕ) (x : X)
@@ -67,20 +62,14 @@ module _ {X : Type 0} (below : X → List X) where
   pub levels_order : (n : ℕ) (level : List X) → far_below n level ≡ []
       → levels below n level ≡ level ++ flat_map below (levels below n level)
   levels_order zero level none = sym none ∙ sym (append-nil level)
-  levels_order (suc n) level none =
-      let rest = levels below n (flat_map below level) in
-      let order : rest ≡ flat_map below level ++ flat_map below rest = levels_order n (flat_map below level) none in
-      ap (λ more. level ++ more) (order ∙ sym (flat_map-append below level rest))
+  levels_order (suc n) level none = grind (arith, levels_order n (flat_map below level) none, flat_map, flat_map-append)
 
   -- and no other list is, where a list of items that are all below each other is empty
   pub levels_only : ((xs : List X) → xs ≡ flat_map below xs → xs ≡ []) → (n : ℕ) (level : List X)
       → far_below n level ≡ [] → (xs : List X) → xs ≡ level ++ flat_map below xs → xs ≡ levels below n level
   levels_only endless zero level none xs order = endless xs (order ∙ ap (λ l. l ++ flat_map below xs) none)
   levels_only endless (suc n) level none xs order =
-      let rest = flat_map below xs in
-      let next : rest ≡ flat_map below level ++ flat_map below rest =
-      ap (flat_map below) order ∙ flat_map-append below level rest in
-      order ∙ ap (λ more. level ++ more) (levels_only endless n (flat_map below level) none rest next)
+      grind (arith, levels_only endless n (flat_map below level) none, flat_map, flat_map-append)
 
   -- ---- items of which each is deeper than what it is below
 
@@ -90,14 +79,11 @@ module _ {X : Type 0} (below : X → List X) where
     all_deeper : (depth : ℕ) (xs : List X) → AllByRecursion (IsDeep depth) xs
         → AllByRecursion (IsDeep (suc depth)) (flat_map below xs)
     all_deeper depth [] deep = tt
-    all_deeper depth (x ∷ xs) deep =
-        all_append (IsDeep (suc depth)) (below x) (flat_map below xs) (deeper depth x deep.0)
-        (all_deeper depth xs deep.1)
+    all_deeper depth (x ∷ xs) deep = search (rules, all_deeper depth xs deep.1, all_append)
 
     all_ended : (depth : ℕ) (xs : List X) → most ≤ depth → AllByRecursion (IsDeep depth) xs → flat_map below xs ≡ []
     all_ended depth [] past deep = refl
-    all_ended depth (x ∷ xs) past deep =
-        ap (λ l. l ++ flat_map below xs) (ended depth x past deep.0) ∙ all_ended depth xs past deep.1
+    all_ended depth (x ∷ xs) past deep = grind (arith, all_ended depth xs past deep.1)
 
     all_some : (xs : List X) → AllByRecursion (IsDeep 0) xs
     all_some [] = tt
@@ -111,8 +97,7 @@ module _ {X : Type 0} (below : X → List X) where
 
     deep_anyway : (xs : List X) → xs ≡ flat_map below xs → (depth : ℕ) → AllByRecursion (IsDeep depth) xs
     deep_anyway xs order zero = all_some xs
-    deep_anyway xs order (suc depth) =
-        subst (AllByRecursion (IsDeep (suc depth))) (sym order) (all_deeper depth xs (deep_anyway xs order depth))
+    deep_anyway xs order (suc depth) = grind (arith, deep_anyway xs order depth, all_deeper)
 
     none_endless : (xs : List X) → xs ≡ flat_map below xs → xs ≡ []
     none_endless xs order = order ∙ all_ended most xs (omega arith) (deep_anyway xs order most)

@@ -18,45 +18,33 @@ no_one x one = let none = one.1 in cc
 one_above : (low high : ℕ) (xs : List ℕ) (x : ℕ) → Rising low high xs → IsOne xs x → low ≤ x
 one_above low high [] x rising one = absurd (let none = one.1 in cc)
 one_above low high (y ∷ xs) x rising (zero, e) = let same : y ≡ x = cc in omega (arith, same, rising.0)
-one_above low high (y ∷ xs) x rising (suc k, e) =
-    omega (arith, one_above (suc y) high xs x rising.2 (k, e), rising.0)
+one_above low high (y ∷ xs) x rising (suc k, e) = grind (arith, one_above (suc y) high xs x rising.2 (k, e))
 
 -- those that pass, where some rise and are exactly these
 pub filter_is : (p : ℕ → Bool) (low n : ℕ) (xs : List ℕ) → Rising low (low + n) xs
     → ((x : ℕ) → IsOne xs x → p x ≡ true) → ((x : ℕ) → low ≤ x → x < low + n → p x ≡ true → IsOne xs x)
     → filter p (range_with_len low n) ≡ xs
 filter_is p low zero [] rising passes all = refl
-filter_is p low zero (x ∷ xs) rising passes all =
-    absurd (omega (arith, rising.0, rising.1))
-filter_is p low (suc n) [] rising passes all = elim (cases_Bool (p low)) [
-  | inl e ↦ absurd (let one = all low (omega arith) (omega arith) e in let none = one.1 in cc)
-  | inr e ↦
-      ap (λ b. cond b (low ∷ filter p (range_with_len (low + 1) n)) (filter p (range_with_len (low + 1) n))) e
-      ∙ filter_is p (low + 1) n [] tt (λ x one. absurd (let none = one.1 in cc))
-      (λ x a b t. all x (omega (arith, a)) (omega arith) t)
-]
+filter_is p low zero (x ∷ xs) rising passes all = grind arith
+filter_is p low (suc n) [] rising passes all = grind (arith, filter_is p (low + 1) n [] tt)
 filter_is p low (suc n) (x ∷ xs) rising passes all = elim (cases_lt low x) [
   | inl l ↦
       (let a = rising.1 in
       let later : Rising (low + 1) (low + 1 + n) (x ∷ xs) =
-      (let end : low + suc n ≡ low + 1 + n = omega arith in
-      (omega arith, omega (arith, a), subst (λ high. Rising (suc x) high xs) end rising.2)) in
+      (grind arith) in
       elim (cases_Bool (p low)) [
         | inl e ↦ absurd (let one = all low (omega arith) (omega arith) e in
             omega (arith, one_above (low + 1) (low + 1 + n) (x ∷ xs) low later one))
         | inr e ↦
-            ap (λ b. cond b (low ∷ filter p (range_with_len (low + 1) n)) (filter p (range_with_len (low + 1) n))) e
-            ∙ filter_is p (low + 1) n (x ∷ xs) later passes (λ y a b t. all y (omega (arith, a)) (omega arith) t)
+            grind (arith, filter_is p (low + 1) n (x ∷ xs) later passes)
       ])
   | inr g ↦
       (let same : low ≡ x = omega (arith, rising.0) in
       let here : p low ≡ true = ap p same ∙ passes x (zero, refl) in
       let next : Rising (low + 1) (low + 1 + n) xs =
-      (let from : suc x ≡ low + 1 = omega (arith, same) in
-      let end : low + suc n ≡ low + 1 + n = omega arith in
-      subst (λ a. Rising a (low + 1 + n) xs) from (subst (λ high. Rising (suc x) high xs) end rising.2)) in
+      (grind arith) in
       let rest = filter_is p (low + 1) n xs next (λ y one. passes y (suc one.0, one.1))
-      (λ y a b t. behind y (all y (omega (arith, a)) (omega arith) t) (omega (arith, a, same))) in
+      (grind arith) in
       ap (λ b. cond b (low ∷ filter p (range_with_len (low + 1) n)) (filter p (range_with_len (low + 1) n))) here
       ∙ ap (λ ys. low ∷ ys) rest ∙ ap (λ y. y ∷ xs) same)
 ] where
@@ -69,8 +57,7 @@ pub rising_more : (low high : ℕ) (xs : List ℕ) (x top : ℕ) → Rising low 
     → Rising low top (xs ++ x ∷ [])
 rising_more low high [] x top rising above from below = (from, below, tt)
 rising_more low high (y ∷ xs) x top rising above from below =
-    let a = rising.1 in
-    (rising.0, omega (arith, a), rising_more (suc y) high xs x top rising.2 above (omega (arith, a)) below)
+    grind (arith, rising_more (suc y) high xs x top rising.2 above)
 
 pub one_more : (xs : List ℕ) (x y : ℕ) → IsOne xs y → IsOne (xs ++ x ∷ []) y
 one_more [] x y one = absurd (let none = one.1 in cc)
@@ -99,15 +86,13 @@ last_one first (y ∷ xs) = let more = last_one y xs in (suc more.0, more.1)
 
 pub one_below : (low high : ℕ) (xs : List ℕ) (x : ℕ) → Rising low high xs → IsOne xs x → x < high
 one_below low high [] x rising one = absurd (let none = one.1 in cc)
-one_below low high (y ∷ xs) x rising (zero, e) =
-    let same : y ≡ x = cc in omega (arith, same, rising.1)
+one_below low high (y ∷ xs) x rising (zero, e) = grind arith
 one_below low high (y ∷ xs) x rising (suc k, e) = one_below (suc y) high xs x rising.2 (k, e)
 
 -- there are no more of them than numbers in between
 pub rising_few : (low high : ℕ) (xs : List ℕ) → low ≤ high → Rising low high xs → length xs + low ≤ high
 rising_few low high [] l rising = omega arith
-rising_few low high (x ∷ xs) l rising =
-    omega (arith, rising.0, rising_few (suc x) high xs (omega (arith, rising.1)) rising.2)
+rising_few low high (x ∷ xs) l rising = grind (arith, rising_few (suc x) high xs (omega (arith, rising.1)) rising.2)
 
 -- there are few places for children
 pub slots_small : (bytes : List ℕ) → Rising 1 256 bytes → length (slots bytes) ≤ 255

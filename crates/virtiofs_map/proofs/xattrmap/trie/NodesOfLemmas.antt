@@ -1,19 +1,19 @@
 -- The nodes of the trie of patterns are a trie of the rules whose patterns they are.
 use Rattle.std.proofs.Common.{Bool, ◌≡◌, ◌≢◌, ◌⊎◌, ℕ, zero, suc, ◌+◌, ◌-◌, ◌<◌, ◌≤◌, true, false, ◌||◌, cond, List, []}
 use Rattle.std.proofs.Common.{◌∷◌, ◌++◌, length, take, drop, Contains, Option, Some, None, refl, sym, ap, get_or, lit≤}
-use Rattle.std.proofs.Common.{subst, ◌∙◌, arith, length-append, inl, inr, append_assoc, rules}
+use Rattle.std.proofs.Common.{subst, ◌∙◌, arith, length-append, inl, inr, append_assoc}
 use Rattle.std.specs.List.{All, slice_get, find, list_any, flat_map, AllByRecursion}
-use Rattle.std.specs.Option.{option_map, option_map_or}
+use Rattle.std.specs.Option.{option_map}
 use Rattle.std.proofs.lemmas.Bool.{cases_Bool, cond_both, ltb-true, true≢false}
 use Rattle.std.proofs.lemmas.List.{take-append-drop, take_at, drop_at, drop-drop}
 use Rattle.std.proofs.lemmas.Option.{slice_get-get_or, slice_get-map, slice_get_within, slice_get_read}
 use Rattle.std.proofs.lemmas.Option.{get_or_from_slice_get}
-use Rattle.virtiofs_map.specs.NodeParts.{answer_of, label_of, ArePatterns, IsPattern, IsChild, IsReal, AreInSlots}
-use Rattle.virtiofs_map.specs.NodeParts.{AreFew, BeginsPattern, IsBounded, IsNode, IsTrie, no_answer}
+use Rattle.virtiofs_map.specs.NodeParts.{label_of, ArePatterns, IsPattern, IsChild, IsReal, AreInSlots}
+use Rattle.virtiofs_map.specs.NodeParts.{AreFew, BeginsPattern, IsBounded, IsNode, IsTrie}
 use Rattle.virtiofs_map.specs.FirstRule.{acts, pattern}
 use Rattle.virtiofs_map.specs.Names.{begins}
 use Rattle.virtiofs_map.specs.PatternTrie.{TextNode, root, leads, next_bytes, label_after, text_node_after, child}
-use Rattle.virtiofs_map.specs.PatternTrie.{children, are_sparse, slots, span, text_nodes, longest_label}
+use Rattle.virtiofs_map.specs.PatternTrie.{children, are_sparse, slots, text_nodes, longest_label}
 use Rattle.virtiofs_map.specs.Rule.{MappingRule}
 use Rattle.virtiofs_map.specs.TrieParts.{texts_of, lowest, label_place, node_for, nodes_from, IsTrieOf, nodes_of}
 use Rattle.virtiofs_map.specs.declared.xattrmap.scopes.Side.{Side}
@@ -62,10 +62,7 @@ pub leads_by : (patterns : List Pattern) (path : List ℕ) (at : ℕ) (one : Pat
     → begins path one.bytes.now ≡ true → leads (texts_of patterns) path ≡ true
 unfolding leads
 leads_by [] path at one here starts = absurd cc
-leads_by (other ∷ patterns) path zero one here starts =
-    let same : other ≡ one = cc in
-    ap (λ b. b || list_any (begins path) (texts_of patterns))
-    (ap (λ (o : Pattern). begins path o.bytes.now) same ∙ starts)
+leads_by (other ∷ patterns) path zero one here starts = grind arith
 leads_by (other ∷ patterns) path (suc at) one here starts =
     let later = leads_by patterns path at one here starts in
     elim (cases_Bool (begins path other.bytes.now)) [
@@ -90,8 +87,7 @@ label_inside : (bytes text q label more : List ℕ) → take (length text) bytes
 label_inside bytes text q label more stands is =
     let rest = drop (length text) bytes in
     let whole : bytes ≡ q ++ (label ++ (more ++ rest)) =
-    sym (take-append-drop (length text) bytes) ∙ ap (λ t. t ++ rest) (stands ∙ is)
-    ∙ append_assoc (q ++ label) more rest ∙ append_assoc q label (more ++ rest) in
+    grind (arith, take-append-drop, append_assoc) in
     ap (λ b. take (length label) (drop (length q) b)) whole
     ∙ ap (take (length label)) (drop_at q (label ++ (more ++ rest)) (length q) refl)
     ∙ take_at label (more ++ rest) (length label) refl
@@ -112,20 +108,13 @@ module _ (side : Side) (rules : List MappingRule) (patterns : List Pattern) wher
       let here : base ≡ base + before below (x ∷ xs) 0 = omega arith in
       (x, refl, sym same ∙ ap (λ n. node_for side rules patterns n x) here)
   node_is base (x ∷ xs) (suc at) node e =
-      let later = node_is (base + length (below x)) xs at node e in
-      let same : base + length (below x) + before below xs at ≡ base + before below (x ∷ xs) (suc at) =
-      omega (arith, length-append (below x) (flat_map below (take at xs))) in
-      (later.0, later.1, later.2 ∙ ap (λ n. node_for side rules patterns n later.0) same)
+      grind (arith, node_is (base + length (below x)) xs at node e, before, length-append)
 
   pub node_at : (base : ℕ) (xs : List (Option TextNode)) (at : ℕ) (of : Option TextNode) → slice_get xs at ≡ Some of
       → slice_get (nodes_from side rules patterns base xs) at
       ≡ Some (node_for side rules patterns (base + before below xs at) of)
   node_at base [] at of e = absurd cc
-  node_at base (x ∷ xs) zero of e =
-      let same : x ≡ of = cc in
-      let here : base ≡ base + before below (x ∷ xs) 0 = omega arith in
-      ap (λ n. Some (node_for side rules patterns n x)) here
-      ∙ ap (λ (o : Option TextNode). Some (node_for side rules patterns (base + before below (x ∷ xs) 0) o)) same
+  node_at base (x ∷ xs) zero of e = grind arith
   node_at base (x ∷ xs) (suc at) of e =
       let same : base + length (below x) + before below xs at ≡ base + before below (x ∷ xs) (suc at) =
       omega (arith, length-append (below x) (flat_map below (take at xs))) in
@@ -141,9 +130,6 @@ module _ (side : Side) (rules : List MappingRule) (patterns : List Pattern) wher
   nodes_counted = length-nodes 1 (text_nodes longest_label (texts_of patterns))
 
   -- ---- answers
-
-  answer_small : AreFew rules → (name : List ℕ) → answer_of side rules name ≤ no_answer
-  answer_small few name = grind (arith, cond_both, ltb-true, type_small)
 
   -- ---- a label among the bytes
 
@@ -164,15 +150,13 @@ module _ (side : Side) (rules : List MappingRule) (patterns : List Pattern) wher
         let text = one.bytes.now in
         let q = path ++ byte ∷ [] in
         let whole : text ≡ q ++ label ++ drop (length (path ++ byte ∷ label)) text =
-        begins_split (path ++ byte ∷ label) text found.starts
-        ∙ ap (λ t. t ++ drop (length (path ++ byte ∷ label)) text) (sym (append_assoc path (byte ∷ []) label)) in
+        grind (arith, begins_split, append_assoc) in
         let all = ap length whole
         ∙ length-append (q ++ label) (drop (length (path ++ byte ∷ label)) text) in
         let size : one.start + length (path ++ byte ∷ label) - length label ≡ one.start + length q =
         omega (arith, length-append path (byte ∷ label), length-append path (byte ∷ [])) in
         let place : label_place patterns (text_node_after path byte label) ≡ one.start + length q =
-        ap (λ o. option_map_or (λ (one : Pattern). one.start + length (path ++ byte ∷ label) - length label) o 0)
-        found.found ∙ size in
+        grind arith in
         let within = is.within in (
           omega (arith, place, within, all, length-append q label),
           ap (λ n. take (length label) (drop n bytes)) place
@@ -217,29 +201,10 @@ module _ (side : Side) (rules : List MappingRule) (patterns : List Pattern) wher
         pub here : slice_get all at ≡ Some (Some text_node)
         pub is : node ≡ node_for side rules patterns (suc (before below all at)) (Some text_node)
 
-      no_hole : (at : ℕ) (node : Node) → IsReal at node → slice_get all at ≡ Some None
-          → node.first_byte ≡ 0 → ⊥
-      no_hole at node real here none = grind (arith, text_nodes_order)
-
       is_text_node : (at : ℕ) (node : Node) → slice_get (nodes_of side rules patterns) at ≡ Some node
           → IsReal at node → IsTextNode at node
       unfolding nodes_of
-      is_text_node at node here real = by_text_node of.0 of.1 of.2 where
-        of : (of : Option TextNode) × (slice_get all at ≡ Some of)
-            × (node ≡ node_for side rules patterns (1 + before below all at) of)
-        of = node_is 1 all at node here
-
-        by_text_node : (text_node : Option TextNode) → slice_get all at ≡ Some text_node
-            → node ≡ node_for side rules patterns (1 + before below all at) text_node → IsTextNode at node
-        by_text_node None there is =
-            absurd (no_hole at node real there (ap (λ (b : Node). b.first_byte) is))
-        by_text_node (Some text_node) there is =
-            (let same : 1 + before below all at ≡ suc (before below all at) = omega arith in
-            record {
-              text_node = text_node;
-              here = there;
-              is = is ∙ ap (λ n. node_for side rules patterns n (Some text_node)) same;
-            })
+      is_text_node at node here real = grind (arith, all, before, below, node_is, text_nodes_order)
 
       text_node_at : (at : ℕ) (d : Node) → at < length (nodes_of side rules patterns)
           → (of : Option TextNode) × (slice_get all at ≡ Some of)
@@ -297,7 +262,7 @@ module _ (side : Side) (rules : List MappingRule) (patterns : List Pattern) wher
             → leads texts (text_node.path ++ byte ∷ label_after longest_label texts (text_node.path ++ byte ∷ [])) ≡ true
         kid_led byte next kid is =
             ap (leads texts)
-            (sym (append_assoc text_node.path (byte ∷ []) (label_after longest_label texts (text_node.path ++ byte ∷ []))))
+            (search (append_assoc, path))
             ∙ label_leads longest_label texts (text_node.path ++ byte ∷ []) is.led
 
         kid_path_is : (byte next : ℕ) (kid : Node) (is : IsKid byte next kid)
@@ -332,11 +297,11 @@ module _ (side : Side) (rules : List MappingRule) (patterns : List Pattern) wher
             let label = label_after longest_label texts front in
             let of = of_rule rule inside acting in
             let here : begins front of.one.bytes.now ≡ true =
-            ap (begins front) of.are ∙ ap (λ w. begins (w ++ byte ∷ []) (pattern side rule)) (sym path_is) ∙ starts in
+            search path_is in
             let goes_on = text_at (λ text. begins front text ≡ true → begins (front ++ label) text ≡ true) patterns of.at
             of.one (whole_label longest_label texts front kid_is.led) of.here here in
             ap (λ w. begins w (pattern side rule))
-            (kid_path_is byte next kid kid_is ∙ sym (append_assoc text_node.path (byte ∷ []) label))
+            (search (kid_path_is, append_assoc, path))
             ∙ ap (begins (front ++ label)) (sym of.are) ∙ goes_on
 
         pattern_byte : (rule : MappingRule) (byte : ℕ) → begins (text_node.path ++ byte ∷ []) (pattern side rule) ≡ true
@@ -355,9 +320,7 @@ module _ (side : Side) (rules : List MappingRule) (patterns : List Pattern) wher
         kid_there byte j slot nonzero led =
             let label = label_after longest_label texts (text_node.path ++ byte ∷ []) in
             let stands : slice_get (below (Some text_node)) j ≡ Some (Some (text_node_after text_node.path byte label)) =
-            slice_get-map (child longest_label texts text_node.path) (slots bytes_on) j
-            ∙ ap (option_map (child longest_label texts text_node.path)) slot
-            ∙ ap Some (child_some longest_label texts text_node.path byte led) in
+            grind (arith, slice_get-map, texts, path, bytes_on, child_some) in
             let inside = slice_get_within (below (Some text_node)) j (Some (text_node_after text_node.path byte label)) stands in
             let here = kid_at longest_label texts at text_node there j inside ∙ stands in (
               base + j,
@@ -365,7 +328,7 @@ module _ (side : Side) (rules : List MappingRule) (patterns : List Pattern) wher
               record {
                 from = omega arith;
                 below = omega (arith, inside);
-                here = node_at 1 all (base + j) (Some (text_node_after text_node.path byte label)) here;
+                here = search node_at;
                 first_byte = refl;
                 real = nonzero;
               },
@@ -376,7 +339,7 @@ module _ (side : Side) (rules : List MappingRule) (patterns : List Pattern) wher
             → (next : ℕ) × (kid : Node) × IsChild (nodes_of side rules patterns) this byte next kid
         complete byte rule inside acting starts =
             let here : begins (text_node.path ++ byte ∷ []) (pattern side rule) ≡ true =
-            ap (λ w. begins (w ++ byte ∷ []) (pattern side rule)) (sym path_is) ∙ starts in
+            search path_is in
             let of = of_rule rule inside acting in
             let led = leads_by patterns (text_node.path ++ byte ∷ []) of.at of.one of.here
             (ap (begins (text_node.path ++ byte ∷ [])) of.are ∙ here) in
@@ -401,14 +364,7 @@ module _ (side : Side) (rules : List MappingRule) (patterns : List Pattern) wher
               record {
                 low_byte = omega (arith, lowest_is, upto.0);
                 high = omega (arith, lowest_is, upto.1, count);
-                slots = λ k kid inside here some.
-                    (let found = kid_of (base + k) kid (omega arith) (omega arith) here some in
-                    let behind : base + k - base ≡ k = omega arith in
-                    let slot = ap (slice_get (slots bytes_on)) (sym behind) ∙ found.1.slot in
-                    let slot_in = ap (λ b. slice_get (slots b) k) (sym is) ∙ slot in
-                    let ranged = ap (λ b. slice_get b k) (sym (slots_placed low more rising dense)) ∙ slot_in in
-                    let at_place = range_is low (span low more) k found.0 ranged in
-                    omega (arith, kid_first_byte found.0 (base + k) kid found.1, at_place.0, lowest_is));
+                slots = grind (arith, kid_of, base, bytes_on, slots_placed, range_is, kid_first_byte);
               })
 
         within : base + length (below (Some text_node)) ≤ length (nodes_of side rules patterns)
@@ -419,12 +375,7 @@ module _ (side : Side) (rules : List MappingRule) (patterns : List Pattern) wher
         led_by = all_at (IsLed longest_label texts) all at (Some text_node) (text_nodes_led longest_label texts) there
 
         label_within : label_place patterns text_node + text_node.size ≤ length bytes
-        label_within = elim led_by [
-          | inl is ↦ (let low = root_stands in
-              omega (arith, low, ap (label_place patterns) is, ap (λ (n : TextNode). n.size) is))
-          | inr after ↦ (let stands = (label_stands after.path after.byte after.label after.led).0 in
-              omega (arith, stands, ap (label_place patterns) after.is, ap (λ (n : TextNode). n.size) after.is))
-        ]
+        label_within = grind (arith, led_by, root_stands, label_stands, path)
 
         front : (path at ≡ []) ⊎ BeginsPattern side rules (path at)
         front = elim led_by [
@@ -435,46 +386,29 @@ module _ (side : Side) (rules : List MappingRule) (patterns : List Pattern) wher
               let is = pattern_is.is in
               inr record {
                 rule = is.rule;
-                inside = (
-                  pattern_is.place,
-                  slice_get_within rules pattern_is.place is.rule is.here,
-                  get_or_from_slice_get rules pattern_is.place is.rule is.rule is.here,
-                );
+                inside = (search (slice_get_within, get_or_from_slice_get));
                 acting = is.acting;
-                starts = ap (λ w. begins w (pattern side is.rule)) (path_is ∙ ap (λ (n : TextNode). n.path) after.is)
-                    ∙ ap (begins (after.path ++ after.byte ∷ after.label)) (sym is.are) ∙ found.starts;
+                starts = grind (arith, path_is, path);
               })
         ]
 
         is_node : IsNode side rules (nodes_of side rules patterns) bytes path at this
-        is_node = record {
-          answers = ap (answer_of side rules) (sym path_is);
-          within = within;
-          label = label_within;
-          placed = placed;
-          paths = paths;
-          whole = whole;
-          complete = complete;
-          front = front;
-        }
+        is_node = search (path_is, within, label_within, placed, paths, whole, complete, front)
 
         size_small : text_node.size < 256
         unfolding longest_label
-        size_small = elim led_by [
-          | inl is ↦ omega (arith, ap (λ (n : TextNode). n.size) is)
-          | inr after ↦ omega (arith, ap (λ (n : TextNode). n.size) after.is)
-        ]
+        size_small = grind (arith, led_by)
 
         is_bounded : AreFew rules → IsBounded (nodes_of side rules patterns) bytes this
         is_bounded few =
-            grind (arith, answer_small, label_within, size_small, within, kids_counted, slots_small, next_rising)
+            grind (arith, cond_both, ltb-true, type_small, label_within, size_small, within, kids_counted, slots_small, next_rising)
 
       -- so all of them are a trie
       nodes_trie : IsTrie side rules (nodes_of side rules patterns) bytes
       unfolding nodes_of
       nodes_trie =
           let begun : slice_get all 0 ≡ Some (Some root) =
-          ap (λ (l : List (Option TextNode)). slice_get l 0) (text_nodes_order longest_label texts) in
+          search text_nodes_order in
           record {
             path = path;
             root = omega (arith, length-nodes 1 all, slice_get_within all 0 (Some root) begun);
@@ -498,11 +432,7 @@ module _ (side : Side) (rules : List MappingRule) (patterns : List Pattern) wher
             base = omega (arith, ap length (text_nodes_order longest_label texts), inside, nodes_counted);
             width = omega arith;
           }
-      text_node_bounded few at (Some text_node) node there is =
-          let same : 1 + before below all at ≡ suc (before below all at) = omega arith in
-          subst (IsBounded (nodes_of side rules patterns) bytes)
-          (sym (is ∙ ap (λ n. node_for side rules patterns n (Some text_node)) same))
-          (is_bounded at text_node there few)
+      text_node_bounded few at (Some text_node) node there is = grind (arith, before, is_bounded)
 
       all_bounded : AreFew rules
           → All (IsBounded (nodes_of side rules patterns) bytes) (nodes_of side rules patterns)

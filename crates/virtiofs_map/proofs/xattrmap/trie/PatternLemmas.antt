@@ -1,5 +1,5 @@
 -- The patterns of a side, gathered rule by rule, and in any order.
-use Rattle.std.proofs.Common.{◌≡◌, ◌≢◌, ◌⊎◌, ℕ, zero, suc, ◌+◌, ◌*◌, ◌<◌, ◌≤◌, true, false, List, [], ◌∷◌, ◌++◌, length}
+use Rattle.std.proofs.Common.{◌≡◌, ◌≢◌, ℕ, zero, suc, ◌+◌, ◌*◌, ◌<◌, ◌≤◌, true, false, List, [], ◌∷◌, ◌++◌, length}
 use Rattle.std.proofs.Common.{take, get_or, Some, inl, inr, sym, ap, subst, ◌∙◌, eq-eqb, arith, All, Contains}
 use Rattle.std.proofs.Common.{slice_get, IsPermutation, nat_cmp, is_lt, true≢false, lt-ltb, rules}
 use Rattle.std.specs.Cmp.Lexicographic.{slice_cmp}
@@ -10,7 +10,7 @@ use Rattle.std.proofs.lemmas.Bool.Decides.{nat_tests}
 use Rattle.std.proofs.lemmas.List.Sorted.{All-permutation, Contains-permutation}
 use Rattle.std.proofs.lemmas.List.Elements.{All-contains, All-push, Contains-append_left, Contains-push}
 use Rattle.std.proofs.lemmas.Option.{same_Some, slice_get_past, slice_get_within, get_or_from_slice_get}
-use Rattle.virtiofs_map.specs.NodeParts.{IsPattern, IsPatternAt, ArePatterns, ArePatternsBelow, AreInOrder}
+use Rattle.virtiofs_map.specs.NodeParts.{IsPatternAt, ArePatterns, ArePatternsBelow, AreInOrder}
 use Rattle.virtiofs_map.specs.FirstRule.{acts, pattern}
 use Rattle.virtiofs_map.specs.TrieBuildParts.{AreReady}
 use Rattle.virtiofs_map.specs.Rule.{HasNoZero, MappingRule, type_number}
@@ -24,11 +24,10 @@ pub patterns_more : (side : Side) (rules : List MappingRule) (bytes : List ℕ) 
     → ArePatternsBelow side rules bytes place patterns → IsPatternAt side rules bytes place one
     → ArePatternsBelow side rules bytes (place + 1) (patterns ++ one ∷ [])
 patterns_more side rules bytes place patterns one below is = record {
-  each = All-push (IsPattern side rules bytes) patterns one below.each (record { place = place; is = is });
+  each = search All-push;
   every = λ at rule before here acting. elim (cases_lt at place) [
     | inl earlier ↦
-        (let (other, stored, same, answer) = below.every at rule earlier here acting in
-        (other, Contains-append_left patterns (one ∷ []) other stored, same, answer))
+        grind (arith, Contains-append_left)
     | inr later ↦
         (let now : at ≡ place = omega arith in
         let rule_is : is.rule ≡ rule = same_Some _ _ (sym is.here ∙ ap (slice_get rules) (sym now) ∙ here) in (
@@ -57,7 +56,7 @@ patterns_whole side rules bytes end patterns below past = grind (arith, cases_lt
 pub patterns-permutation : (side : Side) (rules : List MappingRule) (bytes : List ℕ) (patterns others : List Pattern)
     → IsPermutation patterns others → ArePatterns side rules bytes patterns → ArePatterns side rules bytes others
 patterns-permutation side rules bytes patterns others moved are = record {
-  each = All-permutation (IsPattern side rules bytes) patterns others moved are.each;
+  each = search All-permutation;
   every = λ at rule here acting.
       let (one, stored, same, answer) = are.every at rule here acting in
       (one, Contains-permutation patterns others one moved stored, same, answer);
@@ -80,16 +79,8 @@ pub later_byte : (one other : List ℕ) (depth : ℕ) → take depth one ≡ tak
 later_byte [] other depth same order = omega arith
 later_byte (x ∷ one) [] zero same order = absurd (true≢false order)
 later_byte (x ∷ one) [] (suc depth) same order = absurd (cc)
-later_byte (x ∷ one) (y ∷ other) zero same order = first (cases_lt y x) where
-  first : (y < x) ⊎ (x ≤ y) → x ≤ y
-  first (inl below) = absurd (true≢false (sym (less y x (slice_cmp nat_cmp other one) below) ∙ order))
-  first (inr above) = above
-later_byte (x ∷ one) (y ∷ other) (suc depth) same order =
-    let head : x ≡ y = cc in
-    let rest : take depth one ≡ take depth other = cc in
-    let lower : is_lt (ordering_then (nat_cmp y y) (slice_cmp nat_cmp other one)) ≡ false =
-    subst (λ (b : ℕ). is_lt (ordering_then (nat_cmp y b) (slice_cmp nat_cmp other one)) ≡ false) head order in
-    later_byte one other depth rest (sym (level y (slice_cmp nat_cmp other one)) ∙ lower)
+later_byte (x ∷ one) (y ∷ other) zero same order = grind arith
+later_byte (x ∷ one) (y ∷ other) (suc depth) same order = grind (arith, later_byte one other depth)
 
 -- ---- patterns of which a trie can be made
 
@@ -100,11 +91,7 @@ AreReady-made side rules bytes patterns are plain order = record {
   each = λ k d below.
       let of_rule = are.each k d below in
       let is = of_rule.is in
-      let stored : Contains rules is.rule = (
-        of_rule.place,
-        slice_get_within rules of_rule.place is.rule is.here,
-        get_or_from_slice_get rules of_rule.place is.rule is.rule is.here,
-      ) in
+      let stored : Contains rules is.rule = (search (slice_get_within, get_or_from_slice_get)) in
       let none : All (λ byte. byte ≢ 0) (pattern side is.rule) =
       pattern_no_zero side is.rule (All-contains HasNoZero rules is.rule plain stored) in
       record { within = is.within; full = subst (λ (s : List ℕ). All (λ byte. byte ≢ 0) s) (sym is.are) none };

@@ -1,13 +1,13 @@
 -- The text nodes of a trie stand in the order of their levels, and no other list does.
-use Rattle.std.proofs.Common.{◌≡◌, ℕ, suc, ◌<◌, ◌≤◌, Bool, false, ◌||◌, cond, List, [], ◌∷◌, ◌++◌, length, map, Option}
-use Rattle.std.proofs.Common.{Some, None, refl, ap, ◌∙◌, arith, length-append, inl, inr}
+use Rattle.std.proofs.Common.{◌≡◌, ℕ, suc, ◌<◌, ◌≤◌, Bool, false, List, [], ◌∷◌, ◌++◌, length, map, Option}
+use Rattle.std.proofs.Common.{Some, None, refl, ap, arith, length-append, inl, inr}
 use Rattle.std.specs.List.{flat_map, filter, range_with_len, AllByRecursion}
 use Rattle.std.proofs.lemmas.Bool.{cases_Bool, cond_both}
 use Rattle.std.proofs.lemmas.List.Prefix.{front_fits}
 use Rattle.std.proofs.lemmas.Slice.Eq.{starts_is}
 use Rattle.std.proofs.lemmas.Bool.Decides.{Decides-eqb}
 use Rattle.virtiofs_map.specs.Names.{begins}
-use Rattle.virtiofs_map.specs.PatternTrie.{TextNode, root, leads, next_bytes, label_after, text_node_after, child}
+use Rattle.virtiofs_map.specs.PatternTrie.{TextNode, root, leads, next_bytes, child}
 use Rattle.virtiofs_map.specs.PatternTrie.{children, slots, longest_of, text_nodes}
 use Rattle.virtiofs_map.proofs.xattrmap.trie.LevelOrderLemmas.{all_levels, all_map, only_levels}
 
@@ -23,14 +23,11 @@ longer_false path text l = elim (cases_Bool (begins path text)) [
 none_leads : (texts : List (List ℕ)) (path : List ℕ) → longest_of texts < length path → leads texts path ≡ false
 unfolding leads
 none_leads [] path l = refl
-none_leads (text ∷ texts) path l =
-    ap (λ b. b || leads texts path) (longer_false path text (omega arith))
-    ∙ none_leads texts path (omega arith)
+none_leads (text ∷ texts) path l = grind (arith, none_leads texts path (omega arith), longer_false)
 
 none_left : (p : ℕ → Bool) (xs : List ℕ) → ((x : ℕ) → p x ≡ false) → filter p xs ≡ []
 none_left p [] none = refl
-none_left p (x ∷ xs) none =
-    ap (λ b. cond b (x ∷ filter p xs) (filter p xs)) (none x) ∙ none_left p xs none
+none_left p (x ∷ xs) none = grind (arith, none_left p xs none)
 
 module _ (most : ℕ) (texts : List (List ℕ)) where
   -- the path to a text node has so many bytes or more
@@ -42,11 +39,7 @@ module _ (most : ℕ) (texts : List (List ℕ)) where
   unfolding children child
   deeper depth None deep = tt
   deeper depth (Some text_node) deep =
-      all_map (IsDeep (suc depth)) (child most texts text_node.path) (λ byte.
-      (let label = label_after most texts (text_node.path ++ byte ∷ []) in
-      cond_both (leads texts (text_node.path ++ byte ∷ [])) (Some (text_node_after text_node.path byte label)) None
-      (IsDeep (suc depth))
-      (λ _. omega (arith, length-append text_node.path (byte ∷ label))) (λ _. tt)))
+      all_map (IsDeep (suc depth)) (child most texts text_node.path) (grind (arith, cond_both, IsDeep, length-append))
       (slots (next_bytes texts text_node.path))
 
   ended : (depth : ℕ) (of : Option TextNode) → longest_of texts ≤ depth → IsDeep depth of → children most texts of ≡ []
@@ -54,9 +47,7 @@ module _ (most : ℕ) (texts : List (List ℕ)) where
   ended depth None past deep = refl
   ended depth (Some text_node) past deep =
       ap (λ bytes. map (child most texts text_node.path) (slots bytes))
-      (none_left (λ byte. leads texts (text_node.path ++ byte ∷ [])) (range_with_len 1 255) (λ byte.
-      none_leads texts (text_node.path ++ byte ∷ [])
-      (omega (arith, length-append text_node.path (byte ∷ [])))))
+      (none_left (λ byte. leads texts (text_node.path ++ byte ∷ [])) (range_with_len 1 255) (grind (arith, none_leads, length-append)))
 
   some : (of : Option TextNode) → IsDeep 0 of
   some of = grind arith

@@ -1,10 +1,10 @@
 -- How many bytes a name shares with patterns.
-use Rattle.std.proofs.Common.{◌≡◌, ℕ, zero, suc, ◌+◌, ◌≤◌, true, false, ◌&&◌, cond, eqb, List, [], ◌∷◌, ◌++◌, length}
-use Rattle.std.proofs.Common.{take, drop, max, min, Contains, Option, Some, None, inl, inr, refl, sym, ap, subst, ◌∙◌}
+use Rattle.std.proofs.Common.{◌≡◌, ℕ, zero, suc, ◌+◌, ◌≤◌, true, false, eqb, List, [], ◌∷◌, ◌++◌, length}
+use Rattle.std.proofs.Common.{take, drop, max, min, Contains, Option, Some, None, refl, sym, ap, ◌∙◌}
 use Rattle.std.proofs.Common.{arith, append_assoc, append-nil, slice_get, option_and_then, eqb-true, true≢false}
 use Rattle.std.proofs.Common.{length-drop, rules}
 use Rattle.std.specs.Option.{option_map_or}
-use Rattle.std.proofs.lemmas.Bool.{cases_Bool, cond_both, and_from, and_parts}
+use Rattle.std.proofs.lemmas.Bool.{cond_both, and_from, and_parts}
 use Rattle.std.proofs.lemmas.Bool.Decides.{Decides-eqb}
 use Rattle.std.proofs.lemmas.List.Sums.{common_prefix_len-le}
 use Rattle.std.proofs.lemmas.Option.{get_or_from_slice_get, slice_get_read, slice_get_within}
@@ -26,9 +26,7 @@ shared_within one other = common_prefix_len-le eqb one other
 -- what they begin with alike, and then what the rests share
 pub shared_past : (front one other : List ℕ) → shared (front ++ one) (front ++ other) ≡ length front + shared one other
 shared_past [] one other = omega arith
-shared_past (x ∷ front) one other =
-    ap (λ b. cond b (1 + shared (front ++ one) (front ++ other)) 0) ((Decides-eqb x x).1 refl)
-    ∙ (omega (arith, shared_past front one other))
+shared_past (x ∷ front) one other = grind (arith, shared_past front one other)
 
 -- all of a row that begins the other
 pub shared_whole : (one other : List ℕ) → begins one other ≡ true → shared one other ≡ length one
@@ -41,15 +39,7 @@ pub shared_label : (label more left : List ℕ) → begins label left ≡ false
     → shared (label ++ more) left ≡ shared label left
 shared_label [] more left unlike = absurd (true≢false unlike)
 shared_label (x ∷ label) more [] unlike = refl
-shared_label (x ∷ label) more (y ∷ left) unlike =
-    elim (cases_Bool (eqb x y)) [
-      | inl e ↦
-          ap (λ b. cond b (1 + shared (label ++ more) left) 0) e
-          ∙ ap (λ n. 1 + n) (shared_label label more left (sym (ap (λ b. b && begins label left) e) ∙ unlike))
-          ∙ sym (ap (λ b. cond b (1 + shared label left) 0) e)
-      | inr e ↦ ap (λ b. cond b (1 + shared (label ++ more) left) 0) e
-          ∙ sym (ap (λ b. cond b (1 + shared label left) 0) e)
-    ]
+shared_label (x ∷ label) more (y ∷ left) unlike = grind (arith, shared_label label more left)
 
 -- a front that is shared begins the other
 pub shared_front : (one other : List ℕ) (k : ℕ) → k ≤ shared one other → begins (take k other) one ≡ true
@@ -79,8 +69,7 @@ module _ (path label left name p : List ℕ) (byte : ℕ) where
       ap (λ row. shared row name) whole
       ∙ ap (shared (path ++ (byte ∷ (label ++ more)))) split
       ∙ shared_past path (byte ∷ (label ++ more)) (byte ∷ left)
-      ∙ ap (λ n. length path + n) (shared_past (byte ∷ []) (label ++ more) left
-      ∙ ap (λ n. 1 + n) (shared_label label more left unlike))
+      ∙ ap (λ n. length path + n) (grind (arith, shared_past, shared_label))
 
 -- a pattern that goes on after the path
 pub shared_path : (path rest name p : List ℕ) → name ≡ path ++ rest → begins path p ≡ true → length path ≤ shared p name
@@ -97,18 +86,9 @@ most_at_place : (side : Side) (rules : List MappingRule) (name : List ℕ) (at :
     → slice_get rules at ≡ Some rule → acts side rule ≡ true
     → shared (pattern side rule) name ≤ most_shared side rules name
 most_at_place side [] name at rule e acting = absurd cc
-most_at_place side (r ∷ rules) name zero rule e acting =
-    let same : r ≡ rule = cc in
-    subst (λ one. shared (pattern side rule) name
-    ≤ cond (acts side one) (max (shared (pattern side one) name) (most_shared side rules name))
-    (most_shared side rules name)) (sym same)
-    (subst (λ b. shared (pattern side rule) name
-    ≤ cond b (max (shared (pattern side rule) name) (most_shared side rules name)) (most_shared side rules name))
-    (sym acting) (omega arith))
+most_at_place side (r ∷ rules) name zero rule e acting = grind arith
 most_at_place side (r ∷ rules) name (suc at) rule e acting =
-    let later = most_at_place side rules name at rule e acting in
-    cond_both (acts side r) (max (shared (pattern side r) name) (most_shared side rules name))
-    (most_shared side rules name) (λ n. shared (pattern side rule) name ≤ n) (λ _. omega (arith, later)) (λ _. later)
+    grind (arith, most_at_place side rules name at rule e acting)
 
 pub most_at_least : (side : Side) (rules : List MappingRule) (name : List ℕ) (rule : MappingRule) → Contains rules rule
     → acts side rule ≡ true → shared (pattern side rule) name ≤ most_shared side rules name
@@ -131,7 +111,7 @@ pub most_at_most : (side : Side) (rules : List MappingRule) (name : List ℕ) (t
 most_at_most side rules name top each =
     most_below side rules name top
     (λ at rule here acting. each rule
-    (at, slice_get_within rules at rule here, get_or_from_slice_get rules at rule rule here) acting)
+    (search (slice_get_within, get_or_from_slice_get)) acting)
 
 module _ (side : Side) (rules : List MappingRule) (name : List ℕ) where
   -- the pattern that decides is shared whole
@@ -151,14 +131,10 @@ module _ (side : Side) (rules : List MappingRule) (name : List ℕ) where
           omega (arith, shared_whole (pattern side rule) name both.1, most_at_place side rules name at rule here both.0)
 
   most_within : most_shared side rules name ≤ length name
-  most_within = most_below side rules name (length name)
-      (λ at rule here acting. (shared_within (pattern side rule) name).1)
+  most_within = grind (arith, most_below, shared_within)
 
   most_longest : most_shared side rules name ≤ longest side rules
-  most_longest =
-      most_below side rules name (longest side rules)
-      (λ at rule here acting. (let a = (shared_within (pattern side rule) name).0 in
-      omega (arith, a, no_longer side rules at rule here acting)))
+  most_longest = grind (arith, most_below, shared_within, no_longer)
 
   -- so the count is between the least and the most
   pub lookup_counted : (before after : ℕ) → after ≡ count_after before (most_shared side rules name + 1)

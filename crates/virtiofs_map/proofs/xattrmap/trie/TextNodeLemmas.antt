@@ -18,8 +18,7 @@ use Rattle.virtiofs_map.proofs.xattrmap.SlotLemmas.{Rising, rising_filter, filte
 pub slice_get-drop : {X : Type 0} (m : ℕ) (xs : List X) (k : ℕ) → slice_get (drop m xs) k ≡ slice_get xs (m + k)
 slice_get-drop zero xs k = ap (slice_get xs) (omega arith)
 slice_get-drop (suc m) [] k = refl
-slice_get-drop (suc m) (x ∷ xs) k =
-    slice_get-drop m xs k ∙ (let up : suc (m + k) ≡ suc m + k = omega arith in ap (slice_get (x ∷ xs)) up)
+slice_get-drop (suc m) (x ∷ xs) k = grind (arith, slice_get-drop m xs k)
 
 pub slice_get-take : {X : Type 0} (n : ℕ) (xs : List X) (k : ℕ) → k < n → slice_get (take n xs) k ≡ slice_get xs k
 slice_get-take zero xs k l = absurd (omega arith)
@@ -37,12 +36,8 @@ module _ {X : Type 0} (below : X → List X) where
   pub before_within : (xs : List X) (at : ℕ) (x : X) → slice_get xs at ≡ Some x
       → before below xs at + length (below x) ≤ length (flat_map below xs)
   before_within [] at x e = absurd cc
-  before_within (y ∷ xs) zero x e =
-      let same : y ≡ x = cc in
-      omega (arith, length-append (below y) (flat_map below xs), ap (λ (one : X). length (below one)) same)
-  before_within (y ∷ xs) (suc at) x e =
-      let front = length-append (below y) (flat_map below (take at xs)) in
-      omega (arith, before_within xs at x e, length-append (below y) (flat_map below xs), front)
+  before_within (y ∷ xs) zero x e = grind (arith, length-append, flat_map)
+  before_within (y ∷ xs) (suc at) x e = grind (arith, before_within xs at x e, length-append, flat_map)
 
 -- ---- text nodes
 
@@ -83,15 +78,13 @@ module _ (most : ℕ) (texts : List (List ℕ)) where
           short = label_short most texts (path ++ byte ∷ []);
         }))
     | inr e ↦
-        (let label = label_after most texts (path ++ byte ∷ []) in
-        subst (λ b. IsLed (cond b (Some (text_node_after path byte label)) None)) (sym e) tt)
+        grind (arith, IsLed)
   ]
 
   children_led : (of : Option TextNode) → AllByRecursion IsLed (children most texts of)
   unfolding children
   children_led None = tt
-  children_led (Some text_node) =
-      all_map IsLed (child most texts text_node.path) (child_led text_node.path) (slots (next_bytes texts text_node.path))
+  children_led (Some text_node) = search (rules, all_map, child_led)
 
   pub text_nodes_led : AllByRecursion IsLed (text_nodes most texts)
   text_nodes_led =
@@ -107,9 +100,7 @@ module _ (most : ℕ) (texts : List (List ℕ)) where
 
     -- as many places as it has children are there
     pub kids_within : from + length (children most texts (Some text_node)) ≤ length (text_nodes most texts)
-    kids_within =
-        let inside = before_within (children most texts) (text_nodes most texts) at (Some text_node) here in
-        omega (arith, ap length (text_nodes_order most texts), inside)
+    kids_within = grind (arith, before_within, text_nodes_order)
 
     -- and these have its children
     pub kid_at : (k : ℕ) → k < length (children most texts (Some text_node))

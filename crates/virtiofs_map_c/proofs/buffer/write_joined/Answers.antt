@@ -1,4 +1,4 @@
-use Rattle.std.proofs.Common.{◌≡◌, ◌++◌, ◌∙◌, ℕ, List, drop, length, refl, sym, ap, arith}
+use Rattle.std.proofs.Common.{◌≡◌, ◌++◌, ℕ, List, drop, length, refl, sym, arith}
 use Rattle.std.proofs.lemmas.List.{append_assoc, drop-drop, length-append}
 use Rattle.virtiofs_map_c.proofs.buffer.write_joined.Goals as goal
 
@@ -6,13 +6,7 @@ use Rattle.virtiofs_map_c.proofs.buffer.write_joined.Goals as goal
 joined : (front rest out first second after left : List ℕ) → first ≡ front → second ≡ rest
     → after ≡ drop (length front) out → left ≡ drop (length rest) after
     → first ++ (second ++ left) ≡ (front ++ rest) ++ drop (length (front ++ rest)) out
-joined front rest out first second after left a b c d =
-    ap (λ (s : List ℕ). s ++ (second ++ left)) a
-    ∙ ap (λ (s : List ℕ). front ++ (s ++ left)) b
-    ∙ sym (append_assoc front rest left)
-    ∙ ap (λ (s : List ℕ). (front ++ rest) ++ s)
-    (d ∙ ap (drop (length rest)) c ∙ drop-drop (length rest) (length front) out
-    ∙ ap (λ (n : ℕ). drop n out) (sym (length-append front rest)))
+joined front rest out first second after left a b c d = grind (arith, append_assoc, drop-drop, length-append)
 
 pub returns : goal.returns
 returns c = record {

@@ -12,4 +12,4 @@ pub returns-in-Err-clause-faulty : goal.returns-in-Err-clause-faulty
 returns-in-Err-clause-faulty c = array_faulty _ _ _ (_, c.in-Err.ensures.refused, c.tell.ensures)
 
 pub returns-in-Ok-clause-made : goal.returns-in-Ok-clause-made
-returns-in-Ok-clause-made c = λ _. c.in-Ok.ensures.made
+returns-in-Ok-clause-made c = λ _. rw c.set.ensures.code c.in-Ok.ensures.made

@@ -1,4 +1,4 @@
-use Rattle.std.proofs.Common.{ℕ, Option, Some, None, rules}
+use Rattle.std.proofs.Common.{ℕ, Option, arith, rules}
 use Rattle.std.proofs.lemmas.List.{take_all}
 use Rattle.std.proofs.lemmas.Result.{err_from_is_err_and}
 use Rattle.std.specs.Option.{option_map}
@@ -22,8 +22,7 @@ returns-in_err-push-in-Ok-clause-explained c = search (rules, err_from_is_err_an
 
 explained-here : (place : ℕ) (fault : Option TextFault) (kind : IntErrorKind) → IsNumberError fault kind
     → IsNumberErrorIn (option_map (UnreadText place) fault) kind
-explained-here place None kind is = tt
-explained-here place (Some fault) kind is = is
+explained-here place fault kind is = grind arith
 
 pub returns-in-Err-clause-explained : goal.returns-in-Err-clause-explained
 returns-in-Err-clause-explained c = explained-here _ _ _ c.in-Err.ensures.explained

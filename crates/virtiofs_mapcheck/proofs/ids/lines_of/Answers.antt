@@ -1,7 +1,5 @@
-use Rattle.std.proofs.Common.{[], subst}
+use Rattle.std.proofs.Common.{rules}
 use Rattle.std.proofs.lemmas.List.{take_all}
-use Rattle.std.specs.List.{AllZip}
-use Rattle.virtiofs_mapcheck.specs.IdsAnswer.{IsLine}
 use Rattle.virtiofs_mapcheck.proofs.QueryLineLemmas.{lines_more}
 use Rattle.virtiofs_mapcheck.proofs.ids.lines_of.Goals as goal
 
@@ -11,13 +9,5 @@ loop-query-preserved g c =
     let (line, is, same) = c.in_ok-push_line.ensures in
     lines_more _ _ _ _ lines line _ _ c.loop-query-test.true answered is whole same
 
-pub loop-query-init : goal.loop-query-init
-loop-query-init g c = ([], tt, c.new-text.ensures.bytes)
-
 pub returns : goal.returns
-returns g c =
-    let (lines, answered, whole) = c.loop-query.invariant in (
-      lines,
-      subst (λ queries. AllZip (IsLine c.args.map.now) queries lines) (take_all _ _ c.loop-query-test.false) answered,
-      whole,
-    )
+returns g c = search (rules, take_all)

@@ -1,7 +1,5 @@
 use Rattle.std.proofs.Common.{refl, inl, inr, ◌++◌, ◌∷◌, []}
 use Rattle.std.specs.Fmt.{decimal}
-use Rattle.virtiofs_map.specs.Printed.{forbidden_text}
-use Rattle.virtiofs_output.specs.Written.{line}
 use Rattle.virtiofs_mapcheck.proofs.QueryLineLemmas.{line_written}
 use Rattle.virtiofs_mapcheck.proofs.ids.push_line.Goals as goal
 
@@ -23,6 +21,5 @@ returns-in-Ok-map_host g c =
 
 pub returns-in-Err : goal.returns-in-Err
 returns-in-Err g c =
-    line_written _ _ _ _ _ (line (forbidden_text c.args.query.number))
-    (inr (rw (c.in-GuestToHost.is, ← c.from.ensures) c.in-Err.ensures.looks_up.fails, refl))
+    line_written _ _ _ _ _ _ (inr (rw (c.in-GuestToHost.is, ← c.from.ensures) c.in-Err.ensures.looks_up.fails, refl))
     (rw (c.in-Err.ensures.looks_up.names, c.from.ensures) at c.writeln-in-Err.ensures.bytes)

@@ -1,3 +1,4 @@
+use Rattle.std.proofs.Common.{rules}
 use Rattle.virtiofs_mapcheck.proofs.RulesAnswerLemmas.{rule_refused, text_refused}
 use Rattle.virtiofs_mapcheck.proofs.rules.rules_refusal.Goals as goal
 
@@ -5,5 +6,4 @@ pub returns-in-Some : goal.returns-in-Some
 returns-in-Some g c = rule_refused _ c.args.which.now c.args.error.now _ c.in-Some.is c.rule_refusal.ensures
 
 pub returns-in-NoRulesProvided : goal.returns-in-NoRulesProvided
-returns-in-NoRulesProvided g c =
-    text_refused _ c.args.which.now c.args.error.now c.in_default.is c.in-NoRulesProvided.is c.no_rules_line.ensures
+returns-in-NoRulesProvided g c = search (rules, text_refused)

@@ -7,19 +7,11 @@ use Rattle.virtiofs_mapcheck.proofs.words.read_query.Goals as goal
 pub returns-in_default-number : goal.returns-in_default-number
 returns-in_default-number c =
     let (n, found, rest, whole) = c.in-Some.ensures.cases in
-    λ query. Asks-unread c.args.word.now c.in-Some.numeral.now GuestToHost query
+    λ query. Asks-unread _ _ GuestToHost query
     (found.1 ∙ ap (λ (xs : List ℕ). query_front GuestToHost ++ xs) (sym rest)) c.in_default-number.ensures.refused
 
 pub returns-in_default-number-2 : goal.returns-in_default-number-2
 returns-in_default-number-2 c =
     let (n, found, rest, whole) = c.in_ok-numeral.ensures.cases in
-    λ query. Asks-unread c.args.word.now c.in_ok-numeral.numeral.now HostToGuest query
+    λ query. Asks-unread _ _ HostToGuest query
     (found.1 ∙ ap (λ (xs : List ℕ). query_front HostToGuest ++ xs) (sym rest)) c.in_default-number-2.ensures.refused
-
-pub returns-in-Some : goal.returns-in-Some
-returns-in-Some c =
-    let (n, found, rest, whole) = c.in-Some.ensures.cases in record {
-      numeral = c.in-Some.numeral.now;
-      whole = found.1 ∙ ap (λ (xs : List ℕ). query_front GuestToHost ++ xs) (sym rest);
-      number = c.in-Ok.ensures.read;
-    }

@@ -2,6 +2,7 @@ use Rattle.std.proofs.Common.{◌+◌, ◌∙◌, List, ℕ, Bool, Bor, length, 
 use Rattle.virtiofs_options.proofs.GuestsLemmas.{WrongOnly-map}
 use Rattle.virtiofs_options.specs.Guests.{IsLine, IsLineFault, start_of}
 use Rattle.virtiofs_options.specs.Lines.{line_of, after_line}
+use Rattle.virtiofs_options.specs.Starters.{IsStarter}
 use Rattle.virtiofs_options.proofs.guests.add_guest.Goals as goal
 
 pub returns-in-Ok-clause-read : goal.returns-in-Ok-clause-read
@@ -14,7 +15,7 @@ returns-in-Ok-clause-read c =
         ap (λ (b : Bool). start_of c.args.options b c.args.words.now) (sym c.has_any.ensures) ∙ sym c.in-Some.ensures.first,
         subst (λ (it : List (Bor (List ℕ))). IsLine c.args.options (length c.args.read.now.guests.items + 1) c.args.first it guest here)
             (c.line_of.ensures ∙ ap line_of c.tail_of-words.ensures) line,
-        starter ∙ c.starter_of-starter.ensures,
+        subst (IsStarter c.args.options _) (sym starter) c.starter_of-starter.ensures,
         c.after_line.ensures.after ∙ ap after_line c.tail_of-words.ensures,
       ),
       items,

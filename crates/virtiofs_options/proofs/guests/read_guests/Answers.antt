@@ -1,4 +1,4 @@
-use Rattle.std.proofs.Common.{◌+◌, ◌++◌, ◌∷◌, [], List, ℕ, Bor, Option, Some, arith, refl, sym, ap, subst, map, length, option_map}
+use Rattle.std.proofs.Common.{◌+◌, ◌++◌, ◌∷◌, [], List, ℕ, Bor, Option, Some, arith, sym, subst, map, length, option_map}
 use Rattle.std.specs.Global.{Global}
 use Rattle.virtiofs_options.proofs.GuestsLemmas.{GuestsThen-more, WrongOnly-map, none-left}
 use Rattle.virtiofs_options.specs.Guests.{GuestsThen, Told, IsGuestFault}
@@ -7,10 +7,7 @@ use Rattle.virtiofs_options.specs.declared.guest.Guest.{Guest}
 use Rattle.virtiofs_options.proofs.guests.read_guests.Goals as goal
 
 pub loop-left-init : goal.loop-left-init
-loop-left-init c =
-    subst (λ (guests : List (Guest Global)). GuestsThen c.args.options 1 c.args.first guests (Some c.args.words.now)
-    (map told c.new-2.result.items) (Some c.args.words.now) c.args.first) (sym c.new.ensures.items)
-    (refl, ap (map told) c.new-2.ensures.items, refl)
+loop-left-init c = grind arith
 
 pub loop-left-preserved : goal.loop-left-preserved
 loop-left-preserved c =

@@ -1,9 +1,7 @@
-use Rattle.std.proofs.Common.{[], get_or}
+use Rattle.std.proofs.Common.{arith}
 use Rattle.virtiofs_options.proofs.SearchLemmas.{find-here, find-next}
 use Rattle.virtiofs_options.proofs.UnknownLemmas.{faults-some, faults-none}
 use Rattle.virtiofs_options.specs.Unknown.{is_faulty}
-use Rattle.virtiofs_options.specs.declared.command.Part.{Part}
-use Rattle.virtiofs_options.specs.declared.command.Part.TheVariants.{Plain}
 use Rattle.virtiofs_options.proofs.unknown.check_parts.Goals as goal
 
 pub returns-in-Some-clause-refused : goal.returns-in-Some-clause-refused
@@ -16,8 +14,4 @@ returns-in-Some-clause-refused c =
     )
 
 pub loop-part-preserved : goal.loop-part-preserved
-loop-part-preserved c =
-    let empty : Part = Plain (record { ref_ptr = (0, 0); now = [] }) in
-    let part : Part = get_or c.args.parts.now c.loop-part.part-index empty in
-    find-next (is_faulty c.args.options) c.args.parts.now c.loop-part.part-index empty c.loop-part-test.true
-    c.loop-part.invariant (faults-none c.args.options part _ c.in_ok-fault.ensures c.in-None.is)
+loop-part-preserved c = grind (arith, find-next, faults-none)

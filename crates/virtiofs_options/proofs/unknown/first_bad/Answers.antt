@@ -1,14 +1,12 @@
-use Rattle.std.proofs.Common.{lit<}
+use Rattle.std.proofs.lemmas.List.Folds.{find-append}
+use Rattle.std.proofs.lemmas.List.{map-append}
+use Rattle.std.proofs.Common.{arith, lit<}
 use Rattle.std.proofs.lemmas.Iterator.Consumers.{YieldsList-at, YieldsList-end}
 use Rattle.std.proofs.lemmas.Iterator.Splits.{YieldsList-from_str_split}
-use Rattle.virtiofs_options.proofs.UnknownLemmas.{find-then}
-use Rattle.virtiofs_options.specs.Unknown.{is_bad}
 use Rattle.virtiofs_options.proofs.unknown.first_bad.Goals as goal
 
 pub loop-text-preserved : goal.loop-text-preserved
-loop-text-preserved c =
-    find-then (is_bad c.args.options) _ _ c.loop-text.yielded c.in-Some.text c.loop-text.invariant
-    c.in_ok-first.ensures
+loop-text-preserved c = grind (arith, find-append, map-append)
 
 pub returns : goal.returns
 returns c =

@@ -1,13 +1,11 @@
-use Rattle.std.proofs.Common.{lit<}
+use Rattle.std.proofs.Common.{arith, lit<}
 use Rattle.std.proofs.lemmas.Iterator.Consumers.{YieldsList-at, YieldsList-end}
 use Rattle.std.proofs.lemmas.Iterator.Splits.{YieldsList-from_str_split}
 use Rattle.virtiofs_options.proofs.UnknownLemmas.{words-more}
 use Rattle.virtiofs_options.proofs.unknown.push_older.Goals as goal
 
 pub loop-word-preserved : goal.loop-word-preserved
-loop-word-preserved c =
-    words-more c.args.options c.args.guest _ _ _ c.loop-word.yielded c.in-Some.word c.loop-word.invariant
-    c.in_ok-push_older_word.ensures
+loop-word-preserved c = grind (arith, words-more)
 
 pub returns : goal.returns
 returns c =

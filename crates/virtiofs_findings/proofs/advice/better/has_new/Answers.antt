@@ -1,26 +1,20 @@
-use Rattle.std.proofs.Common.{rules, sym}
+use Rattle.std.proofs.Common.{rules, arith}
 use Rattle.std.proofs.lemmas.Bool.{true≢false}
 use Rattle.std.proofs.lemmas.List.{take_all}
-use Rattle.virtiofs_findings.specs.Advice.{IsNew}
 use Rattle.virtiofs_findings.proofs.ListLemmas.{AnyHas-at, AnyHas-none}
 use Rattle.virtiofs_findings.proofs.TestLemmas.{decides_not}
 use Rattle.virtiofs_findings.proofs.advice.better.has_new.Goals as goal
 
 pub loop-finding-preserved : goal.loop-finding-preserved
 loop-finding-preserved g c =
-    AnyHas-none (IsNew c.args.accepted.now c.args.others.now) c.args.found.now c.loop-finding.finding-index c.finding-item.result
+    AnyHas-none _ _ _ _
     c.finding-item.is c.loop-finding-test.true c.loop-finding.invariant (decides_not _ c.is_new.ensures c.if-is_new.false)
 
 pub returns-then-is_new : goal.returns-then-is_new
 returns-then-is_new g c = (
-  (λ _. AnyHas-at (IsNew c.args.accepted.now c.args.others.now) c.args.found.now c.loop-finding.finding-index c.finding-item.result
-      c.loop-finding-test.true (rw c.finding-item.is at (c.is_new.ensures.0 c.if-is_new.true))),
+  (λ _. AnyHas-at _ _ _ _ c.loop-finding-test.true (rw c.finding-item.is at (c.is_new.ensures.0 c.if-is_new.true))),
   (λ _. search rules),
 )
 
 pub returns : goal.returns
-returns g c = (
-  (λ yes. absurd (true≢false (sym yes))),
-  (λ some. absurd
-      (c.loop-finding.invariant (rw (take_all c.loop-finding.finding-index c.args.found.now c.loop-finding-test.false) some))),
-)
+returns g c = grind (arith, true≢false, take_all, c.loop-finding.invariant, c.loop-finding-test.false)

@@ -1,3 +1,4 @@
+use Rattle.std.proofs.Common.{arith}
 use Rattle.virtiofs_findings.proofs.TestLemmas.{decides_not, denied}
 use Rattle.virtiofs_findings.proofs.advice.better.is_new.Goals as goal
 
@@ -9,8 +10,4 @@ returns-then-not-is_accepted g c =
     )
 
 pub returns-else-not-is_accepted : goal.returns-else-not-is_accepted
-returns-else-not-is_accepted g c =
-    let not = denied c.is_accepted.result c.is_accepted.ensures in (
-      (λ is. absurd (not.0 is (c.is_accepted.ensures.0 c.if-not-is_accepted.false))),
-      (λ new. not.1 new.0),
-    )
+returns-else-not-is_accepted g c = grind (arith, denied, c.is_accepted.ensures, c.if-not-is_accepted.false)

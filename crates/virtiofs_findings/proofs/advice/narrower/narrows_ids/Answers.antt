@@ -10,8 +10,7 @@ returns-then-are_same-clause-narrower g c = λ _. narrower_self c.args.given.now
 
 pub returns-clause-narrower : goal.returns-clause-narrower
 returns-clause-narrower g c = λ yes. subst (NarrowerIds c.args.given.now.map)
-    (sym (sym c.specs-3.ensures.specs ∙ c.are_same-2.ensures.0 yes ∙ c.as_slice.ensures.value))
-    c.in_ok-mended.ensures
+    (sym (sym c.specs-3.ensures.specs ∙ c.are_same-2.ensures.0 yes ∙ c.as_slice.ensures.value)) c.in_ok-mended.ensures
 
 pub returns-clause-same : goal.returns-clause-same
 returns-clause-same g c = λ same. absurd (decides_not _ c.are_same.ensures c.if-are_same.false

@@ -5,6 +5,6 @@ use Rattle.virtiofs_findings.proofs.advice.options.guests_of.Goals as goal
 pub loop-place-preserved : goal.loop-place-preserved
 loop-place-preserved g c =
     rw c.in_ok-push.ensures.items (
-    with_more c.args.given.now c.args.others.now _ c.loop-place.place c.index-given-place.result c.index-others-place.result
+    with_more _ _ _ _ _ _
     _ c.loop-place-test.true (subst (λ n. c.loop-place.place < n) (sym c.requires.same) c.loop-place-test.true)
     c.index-given-place.is c.index-others-place.is c.loop-place.invariant c.in_ok-guest_of.ensures)

@@ -1,11 +1,12 @@
-use Rattle.virtiofs_findings.proofs.ExplainQuestionLemmas.{asks_more, first_wrong}
+use Rattle.std.proofs.lemmas.Option.{slice_get-get_or}
+use Rattle.std.proofs.Common.{arith}
+use Rattle.virtiofs_findings.proofs.ExplainQuestionLemmas.{asks_more}
 use Rattle.virtiofs_findings.proofs.explain.asking.read_questions.Goals as goal
 
 pub returns-in-Err : goal.returns-in-Err
 returns-in-Err c = (
   c.loop-place.place,
-  first_wrong c.args.texts.now c.loop-place.place _ c.loop-place.questions.items c.in-Err.fault c.loop-place-test.true
-      c.loop-place.invariant c.in-Err.ensures.refused,
+  (grind (arith, slice_get-get_or)),
 )
 
 pub loop-place-preserved : goal.loop-place-preserved

@@ -1,5 +1,6 @@
-use Rattle.virtiofs_findings.proofs.IdLemmas.{roots_are}
+use Rattle.std.proofs.Common.{arith}
+use Rattle.virtiofs_findings.proofs.IdLemmas.{moved_one}
 use Rattle.virtiofs_findings.proofs.ids.audits.root_ids.Goals as goal
 
 pub returns : goal.returns
-returns g c = roots_are c.moved_all.result c.args.ranges.now c.moved_all.ensures
+returns g c = grind (arith, moved_one)

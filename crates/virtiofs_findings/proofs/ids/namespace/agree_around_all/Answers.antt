@@ -1,5 +1,4 @@
-use Rattle.std.proofs.Common.{refl, subst, sym}
-use Rattle.std.proofs.Common.{All}
+use Rattle.std.proofs.Common.{refl, subst, All, arith}
 use Rattle.std.proofs.lemmas.Bool.{true≢false}
 use Rattle.std.proofs.lemmas.List.{take_all}
 use Rattle.std.proofs.lemmas.List.Elements.{All-get_or, All-more}
@@ -13,12 +12,8 @@ loop-range-preserved c =
     c.loop-range-test.true c.loop-range.invariant (c.agree_around.ensures.0 c.if-not-agree_around.false)
 
 pub returns-then-not-agree_around : goal.returns-then-not-agree_around
-returns-then-not-agree_around c = (
-  λ is. absurd (true≢false (sym is)),
-  λ all. absurd (decides_not _ c.agree_around.ensures c.if-not-agree_around.true
-      (All-get_or (AgreeAround c.args.shown.now c.args.written.now) c.args.ranges.now c.loop-range.range-index _
-      c.loop-range-test.true all)),
-)
+returns-then-not-agree_around c =
+    grind (arith, true≢false, decides_not, All-get_or, c.agree_around.ensures, c.if-not-agree_around.true, c.loop-range-test.true)
 
 pub returns : goal.returns
 returns c = (

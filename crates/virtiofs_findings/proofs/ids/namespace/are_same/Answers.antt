@@ -1,15 +1,12 @@
-use Rattle.std.proofs.Common.{arith, sym}
+use Rattle.std.proofs.Common.{arith}
 use Rattle.std.proofs.lemmas.Bool.{true≢false}
 use Rattle.virtiofs_findings.proofs.NamespaceLemmas.{agree_all, same_around}
 use Rattle.virtiofs_findings.proofs.TestLemmas.{decides_not}
 use Rattle.virtiofs_findings.proofs.ids.namespace.are_same.Goals as goal
 
 pub returns-then-not-agree_around_all : goal.returns-then-not-agree_around_all
-returns-then-not-agree_around_all c = (
-  λ is. absurd (true≢false (sym is)),
-  λ same. absurd (decides_not _ c.agree_around_all.ensures c.if-not-agree_around_all.true
-      (same_around c.args.shown.now c.args.written.now c.args.shown.now same)),
-)
+returns-then-not-agree_around_all c =
+    grind (arith, true≢false, decides_not, same_around, c.agree_around_all.ensures, c.if-not-agree_around_all.true)
 
 pub returns : goal.returns
 returns c = (

@@ -5,10 +5,8 @@ use Rattle.virtiofs_findings.proofs.ids.ranges.meeting.Goals as goal
 
 pub loop-place-preserved : goal.loop-place-preserved
 loop-place-preserved c =
-    none_met c.args.before.now c.args.range.now _ c.loop-place.place c.loop-place.invariant c.loop-place-test.true
+    none_met _ _ _ _ c.loop-place.invariant c.loop-place-test.true
     (decides_not _ c.meet.ensures c.if-meet.false) (decides_not _ c.meet-in-loop-place.ensures c.if-meet-2.false)
 
 pub returns : goal.returns
-returns c =
-    all_unmet c.args.before.now c.args.range.now c.loop-place.place (omega (arith, c.loop-place-test.false))
-    c.loop-place.invariant
+returns c = all_unmet _ _ _ (omega (arith, c.loop-place-test.false)) c.loop-place.invariant

@@ -14,7 +14,6 @@ loop-part-preserved g c = λ k from below. elim (cases_lt k c.loop-part.part) [
 pub returns : goal.returns
 returns g c = (
   (λ yes. absurd (true≢false (sym yes))),
-  (λ some. absurd
-      (c.loop-part.invariant some.0 some.1
+  (λ some. absurd (c.loop-part.invariant some.0 some.1
       (omega (arith, some.2, c.loop-part-test.false, c.rule_count-part-end.ensures)) some.3)),
 )

@@ -4,8 +4,7 @@ use Rattle.virtiofs_id_audit.proofs.extents.runs.run_bad.Goals as goal
 
 pub returns-then-astray : goal.returns-then-astray
 returns-then-astray g c =
-    IsRun-all_bad c.args.map.now (Hold c.args.hosts.now) c.args.n c.run_astray-astray.result
-    c.run_astray-astray.ensures c.if-astray.true
+    IsRun-all_bad _ (Hold c.args.hosts.now) _ _ c.run_astray-astray.ensures c.if-astray.true
 
 pub returns : goal.returns
 returns g c =

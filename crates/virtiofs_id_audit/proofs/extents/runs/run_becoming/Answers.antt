@@ -5,5 +5,4 @@ use Rattle.virtiofs_id_audit.proofs.extents.runs.run_becoming.Goals as goal
 pub returns : goal.returns
 returns c =
     rw c.min-above.ensures
-    (IsRun-each c.args.piece c.args.spans.now c.in-Some.to c.run_in-run.result c.requires.order
-    (sym c.if-not-is_one_to_one.ensures) c.in-Some.ensures c.run_in-run.ensures)
+    (IsRun-each _ _ _ _ c.requires.order (sym c.if-not-is_one_to_one.ensures) c.in-Some.ensures c.run_in-run.ensures)

@@ -4,6 +4,5 @@ use Rattle.virtiofs_id_audit.proofs.extents.runs.run_into.Goals as goal
 
 pub returns : goal.returns
 returns g c =
-    IsRun-into c.args.map.now (Hold c.args.spans.now) c.stretch.result c.args.n _ c.run_becoming-run.result
-    c.stretch.ensures.accepted c.stretch.ensures.stretch c.stretch.ensures.first c.requires.is_id
-    c.run_becoming-run.ensures c.min.ensures
+    IsRun-into _ (Hold c.args.spans.now) _ _ _ _ c.stretch.ensures.accepted c.stretch.ensures.stretch
+    c.stretch.ensures.first c.requires.is_id c.run_becoming-run.ensures c.min.ensures

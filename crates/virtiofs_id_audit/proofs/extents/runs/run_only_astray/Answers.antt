@@ -5,11 +5,9 @@ use Rattle.virtiofs_id_audit.proofs.extents.runs.run_only_astray.Goals as goal
 
 pub returns-then-not-astray : goal.returns-then-not-astray
 returns-then-not-astray g c =
-    IsRun-none_astray c.args.map.now (Hold c.args.hosts.now) c.args.n c.run_astray-astray.result
-    c.run_astray-astray.ensures (not-true _ c.if-not-astray.true)
+    IsRun-none_astray _ (Hold c.args.hosts.now) _ _ c.run_astray-astray.ensures (not-true _ c.if-not-astray.true)
 
 pub returns : goal.returns
 returns g c =
-    IsRun-only_astray c.args.map.now (Hold c.args.hosts.now) c.args.n c.run_astray-astray.result
-    c.run_astray-astray.ensures c.run_into-into.result _ c.run_into-into.ensures c.min.ensures
-    (not-false _ c.if-not-astray.false)
+    IsRun-only_astray _ (Hold c.args.hosts.now) _ _ c.run_astray-astray.ensures _ _ c.run_into-into.ensures
+    c.min.ensures (not-false _ c.if-not-astray.false)

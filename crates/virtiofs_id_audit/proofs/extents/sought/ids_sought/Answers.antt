@@ -12,8 +12,7 @@ returns-clause-ids g c =
 
 pub returns-clause-below : goal.returns-clause-below
 returns-clause-below g c =
-    all_below c.in_ok-others.others.items (record { first = 0; last = 4294967294 }) refl _
-    (rw c.deref-2.ensures.value at c.without.ensures.hold) c.without.ensures.apart
+    all_below _ _ refl _ (rw c.deref-2.ensures.value at c.without.ensures.hold) c.without.ensures.apart
 
 pub without-requires-clause-firsts : goal.without-requires-clause-firsts
 without-requires-clause-firsts g c = rw c.deref-2.ensures.value (AreApart-firsts _ c.in_ok-others.ensures.apart)

@@ -11,14 +11,12 @@ loop-next-preserved g c =
     elim c.if-not-run.branch [
       | then-not-run+in_ok-push w ↦
           rw (w.others-is, w.in_ok-push.ensures.items)
-          (OthersTo-push (IsSought c.args.sought c.args.map.now (Hold c.args.hosts.now)) c.loop-next.next
-          c.loop-next.others.items c.run_of-run.result c.loop-next.invariant c.run_of-run.ensures _
-          (not-true _ w.if-not-run.true) refl refl)
+          (OthersTo-push (IsSought c.args.sought c.args.map.now (Hold c.args.hosts.now)) _ _ _ c.loop-next.invariant
+          c.run_of-run.ensures _ (not-true _ w.if-not-run.true) refl refl)
       | else-not-run w ↦
           rw w.others-is
-          (OthersTo-such (IsSought c.args.sought c.args.map.now (Hold c.args.hosts.now)) c.loop-next.next
-          c.loop-next.others.items c.run_of-run.result c.loop-next.invariant c.run_of-run.ensures
-          (not-false _ w.if-not-run.false))
+          (OthersTo-such (IsSought c.args.sought c.args.map.now (Hold c.args.hosts.now)) _ _ _ c.loop-next.invariant
+          c.run_of-run.ensures (not-false _ w.if-not-run.false))
     ]
 
 pub run_of-run-requires-clause-starts : goal.run_of-run-requires-clause-starts

@@ -7,34 +7,29 @@ use Rattle.virtiofs_id_audit.proofs.extents.starts.next_start.Goals as goal
 pub returns-in_default-clause-none : goal.returns-in_default-clause-none
 returns-in_default-clause-none c =
     let splits =
-    IsPartitionPoint-from_clause (λ (start : ℕ). leb start c.args.n) c.args.starts.now c.partition_point-at.result
+    IsPartitionPoint-from_clause (λ (start : ℕ). leb start c.args.n) c.args.starts.now _
     c.partition_point-at.ensures.partitioned
-    (IsPartitionedBy-leb (λ (start : ℕ). start) c.args.starts.now c.args.n c.requires.order)
-    (λ a r f' k. search rules) in
+    (IsPartitionedBy-leb (λ (start : ℕ). start) _ c.args.n c.requires.order) (λ a r f' k. search rules) in
     let lookup = c.in_default.ensures.lookup.0 in
     let out : length c.args.starts.now ≤ c.partition_point-at.result = grind (arith, nat_tests) in
-    λ start above below. none_left c.args.starts.now c.args.n c.partition_point-at.result c.requires.order splits out start above
+    λ start above below. none_left _ _ _ c.requires.order splits out start above
 
 pub returns-clause-above : goal.returns-clause-above
 returns-clause-above c =
     let splits =
-    IsPartitionPoint-from_clause (λ (start : ℕ). leb start c.args.n) c.args.starts.now c.partition_point-at.result
+    IsPartitionPoint-from_clause (λ (start : ℕ). leb start c.args.n) c.args.starts.now _
     c.partition_point-at.ensures.partitioned
-    (IsPartitionedBy-leb (λ (start : ℕ). start) c.args.starts.now c.args.n c.requires.order)
-    (λ a r f' k. search rules) in
+    (IsPartitionedBy-leb (λ (start : ℕ). start) _ c.args.n c.requires.order) (λ a r f' k. search rules) in
     let lookup = c.in-Some.ensures.lookup.0 in
     let inside : c.partition_point-at.result < length c.args.starts.now = grind (arith, nat_tests) in
-    next_above c.args.starts.now c.args.n c.partition_point-at.result c.requires.order splits c.in-Some.start.now
-    (sym c.in-Some.ensures.lookup.1) inside
+    next_above _ _ _ c.requires.order splits _ (sym c.in-Some.ensures.lookup.1) inside
 
 pub returns-clause-none : goal.returns-clause-none
 returns-clause-none c =
     let splits =
-    IsPartitionPoint-from_clause (λ (start : ℕ). leb start c.args.n) c.args.starts.now c.partition_point-at.result
+    IsPartitionPoint-from_clause (λ (start : ℕ). leb start c.args.n) c.args.starts.now _
     c.partition_point-at.ensures.partitioned
-    (IsPartitionedBy-leb (λ (start : ℕ). start) c.args.starts.now c.args.n c.requires.order)
-    (λ a r f' k. search rules) in
+    (IsPartitionedBy-leb (λ (start : ℕ). start) _ c.args.n c.requires.order) (λ a r f' k. search rules) in
     let lookup = c.in-Some.ensures.lookup.0 in
     let inside : c.partition_point-at.result < length c.args.starts.now = grind (arith, nat_tests) in
-    none_between c.args.starts.now c.args.n c.partition_point-at.result c.requires.order splits c.in-Some.start.now
-    (sym c.in-Some.ensures.lookup.1) inside
+    none_between _ _ _ c.requires.order splits _ (sym c.in-Some.ensures.lookup.1) inside

@@ -1,5 +1,5 @@
 -- The least of the answers of patterns.
-use Rattle.std.proofs.Common.{◌≡◌, ◌⊎◌, ℕ, ◌+◌, ◌<◌, ◌≤◌, List, min, inl, inr, sym, ap, ◌∙◌, arith, rules}
+use Rattle.std.proofs.Common.{◌≡◌, ◌⊎◌, ℕ, ◌+◌, ◌<◌, ◌≤◌, List, min, inl, inr, arith, rules}
 use Rattle.std.proofs.lemmas.Bool.{cases_lt}
 use Rattle.virtiofs_map.specs.TrieBuildParts.{number, IsLeast, IsLeastOf}
 use Rattle.virtiofs_map.specs.declared.xattrmap.trie.patterns.Pattern.{Pattern}
@@ -10,18 +10,11 @@ pub IsLeastOf-more : (patterns : List Pattern) (base low at value next : ℕ) �
     → IsLeastOf patterns base low (at + 1) next
 IsLeastOf-more patterns base low at value next l least e = record {
   least = omega arith;
-  below = λ i from upto. elim (cases_lt i at) [
-    | inl b ↦ omega (arith, least.below i from b)
-    | inr g ↦ (let same : i ≡ at = omega arith in omega (arith, ap (number patterns) same))
-  ];
+  below = grind (arith, cases_lt);
   met = elim (cases_lt (number patterns at) value) [
     | inl b ↦ inr (at, l, omega arith, omega arith)
     | inr g ↦
-        (let same : next ≡ value = omega arith in
-        elim least.met [
-          | inl h ↦ inl (same ∙ h)
-          | inr (i, from, upto, h) ↦ inr (i, from, omega arith, h ∙ sym same)
-        ])
+        grind arith
   ];
 }
 

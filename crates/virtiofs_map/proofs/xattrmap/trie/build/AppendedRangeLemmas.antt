@@ -11,8 +11,7 @@ pub push_cases : {X : Type 0} (xs : List X) (y : X) (k : ℕ) (z : X) → slice_
 push_cases [] y zero z e = inr (refl, cc)
 push_cases [] y (suc k) z e = absurd cc
 push_cases (x ∷ xs) y zero z e = inl (omega arith, e)
-push_cases (x ∷ xs) y (suc k) z e =
-    elim (push_cases xs y k z e) [ inl (l, h) ↦ inl (omega (arith, l), h) | inr (l, h) ↦ inr (omega (arith, l), h) ]
+push_cases (x ∷ xs) y (suc k) z e = grind (arith, push_cases xs y k z e)
 
 pub push_keeps : {X : Type 0} (xs : List X) (y : X) (k : ℕ) → k < length xs
     → slice_get (xs ++ y ∷ []) k ≡ slice_get xs k
@@ -24,10 +23,7 @@ pub IsLonger-refl : (ranges : List PatternRange) → IsLonger ranges ranges
 IsLonger-refl ranges = record { longer = omega arith; same = λ at l. refl }
 
 pub IsLonger-push : (ranges : List PatternRange) (range : PatternRange) → IsLonger ranges (ranges ++ range ∷ [])
-IsLonger-push ranges range = record {
-  longer = omega (arith, length_push ranges range);
-  same = λ at l. push_keeps ranges range at l;
-}
+IsLonger-push ranges range = grind (arith, length_push, push_keeps)
 
 pub IsLonger-trans : (old mid new : List PatternRange) → IsLonger old mid → IsLonger mid new → IsLonger old new
 IsLonger-trans old mid new a b = search rules

@@ -1,10 +1,10 @@
 -- Nodes that were built from patterns: their answers, and that they are exactly those of the text nodes of a trie.
-use Rattle.std.proofs.Common.{◌≡◌, ℕ, zero, suc, ◌+◌, ◌*◌, ◌<◌, ◌≤◌, Bool, true, not, cond, List, [], ◌∷◌, ◌++◌, Some}
+use Rattle.std.proofs.Common.{◌≡◌, ℕ, zero, suc, ◌+◌, ◌*◌, ◌<◌, ◌≤◌, Bool, true, List, [], ◌∷◌, ◌++◌, Some}
 use Rattle.std.proofs.Common.{length, take, drop, get_or, inl, inr, refl, sym, ap, subst, ◌∙◌, arith, map, Option}
 use Rattle.std.proofs.Common.{append-nil, ◌≢◌, All, Contains, slice_get, flat_map, option_map, take_all, get_or-take}
 use Rattle.std.proofs.Common.{get_or-drop}
 use Rattle.std.specs.List.{position_or_len}
-use Rattle.std.proofs.lemmas.Bool.{cases_lt, cases_Bool, and_parts, and_from, cond_both, ltb-true, lt-ltb}
+use Rattle.std.proofs.lemmas.Bool.{cases_lt, cases_Bool, and_parts, and_from, ltb-true, lt-ltb}
 use Rattle.std.proofs.lemmas.List.{take-append-drop, take-take, take_at, take-append-le, length-map, length_push}
 use Rattle.std.proofs.lemmas.List.Sums.{passes_at_first}
 use Rattle.std.proofs.lemmas.Option.{slice_get_cases, slice_get_within, slice_get_read, slice_get-get_or, slice_get-map}
@@ -40,12 +40,8 @@ use Rattle.virtiofs_map.proofs.xattrmap.trie.build.AppendedRangeLemmas.{push_cas
 first_at_most : {X : Type 0} (p : X → Bool) (xs : List X) (at : ℕ) (x : X) → slice_get xs at ≡ Some x → p x ≡ true
     → position_or_len p xs ≤ at
 first_at_most p [] at x e passes = absurd cc
-first_at_most p (y ∷ ys) zero x e passes =
-    let here : p y ≡ true = cc in
-    subst (λ b. cond (not b) (1 + position_or_len p ys) 0 ≤ 0) (sym here) (omega arith)
-first_at_most p (y ∷ ys) (suc at) x e passes =
-    let later = first_at_most p ys at x e passes in
-    cond_both (not (p y)) (1 + position_or_len p ys) 0 (λ n. n ≤ suc at) (λ _. omega (arith, later)) (λ _. omega arith)
+first_at_most p (y ∷ ys) zero x e passes = grind arith
+first_at_most p (y ∷ ys) (suc at) x e passes = grind (arith, first_at_most p ys at x e passes)
 
 -- the pattern at a place, with the rule whose it is
 record IsOf (side : Side) (rules : List MappingRule) (bytes : List ℕ) (patterns : List Pattern) (i : ℕ) : Type 0 where
@@ -80,8 +76,7 @@ module _ (side : Side) (rules : List MappingRule) (bytes : List ℕ) (patterns :
           here = is.is.here;
           acting = is.is.acting;
           are = t ∙ is.is.are;
-          among = subst (λ w. take (length w) (drop (start_of patterns i) bytes) ≡ w) (sym t)
-              (subst (λ n. take (length one.bytes.now) (drop n bytes) ≡ one.bytes.now) (sym s) is.is.among);
+          among = grind arith;
           stands_for = number-here patterns i one here ∙ is.is.stands_for;
         })
   ]
@@ -185,7 +180,7 @@ answered side rules bytes patterns of_rules few ready range is value least =
         begins_from (text patterns i) path (drop (length (text patterns i)) path)
             (sym (take-append-drop (length (text patterns i)) path)
             ∙ ap (λ s. s ++ drop (length (text patterns i)) path)
-            (take-take (length (text patterns i)) range.depth (text patterns range.low) u.short ∙ u.front)),
+            (search take-take)),
       )
 
       from : (i : ℕ) → (i < length patterns) × (begins (text patterns i) path ≡ true) → IsUpto patterns range i
@@ -196,7 +191,7 @@ answered side rules bytes patterns of_rules few ready range is value least =
           record {
             within = within;
             short = short;
-            front = sym (take-take (length (text patterns i)) range.depth (text patterns range.low) short)
+            front = sym (search take-take)
                 ∙ ap (take (length (text patterns i))) (begins_split (text patterns i) path b)
                 ∙ take_at (text patterns i) (drop (length (text patterns i)) path) (length (text patterns i)) refl;
           }
@@ -229,9 +224,9 @@ module _ (patterns : List Pattern) where
       let text_node_here : slice_get (map of old) at ≡ Some (of range) =
       slice_get-map of old at ∙ ap (option_map of) here in
       let before : (k : ℕ) → k ≤ length old → take k (map of new) ≡ take k (map of old) =
-      (λ k l. ap (take k) text_nodes ∙ take-append-le k (map of old) (below (of range)) (omega (arith, l, old_size))) in
+      (grind (arith, take-append-le, of, below)) in
       let order : map of old ≡ Some root ∷ flat_map below (take at (map of old)) =
-      are.order ∙ ap (λ n. Some root ∷ flat_map below (take n (map of old))) (sym is) in
+      grind (arith, flat_map, below, of) in
       let count : length old ≡ suc (length (flat_map below (take at (map of old)))) =
       (omega (arith, ap length order, old_size)) in
       record {
@@ -243,43 +238,17 @@ module _ (patterns : List Pattern) where
             ∙ ap (flat_map below) (sym (take_push (map of old) at (of range) text_node_here)
             ∙ sym (before (suc at) (omega (arith, inside)))))
             ∙ ap (λ n. Some root ∷ flat_map below (take n (map of new))) (sym more);
-        exact = λ k one other there e. elim (push_cases nodes node k other e) [
-          | inl (l, f) ↦
-              (let low : k < length old = omega (arith, l, is, inside) in
-              are.exact k one other (sym (longer.same k low) ∙ there) f
-              ∙ ap (λ ns. node_with patterns other.answer (suc (length (flat_map below ns))) (of one))
-              (sym (before k (omega (arith, low)))))
-          | inr (l, f) ↦
-              (let same : k ≡ at = omega (arith, l, is) in
-              let stands : slice_get old at ≡ Some one =
-              sym (longer.same at inside) ∙ ap (slice_get new) (sym same) ∙ there in
-              let this : range ≡ one = cc in
-              subst (λ (b : Node). b
-              ≡ node_with patterns b.answer (suc (length (flat_map below (take k (map of new))))) (of one)) f
-              (made
-              ∙ ap (λ n. node_with patterns node.answer n (of range)) count
-              ∙ ap (λ ns. node_with patterns node.answer (suc (length (flat_map below ns))) (of range))
-              (sym (before at (omega (arith, inside))) ∙ ap (λ n. take n (map of new)) (sym same))
-              ∙ ap (λ p. node_with patterns node.answer (suc (length (flat_map below (take k (map of new))))) (of p))
-              this))
-        ];
+        exact = grind (arith, push_cases, flat_map, below, of);
       }
 
   -- the root alone
   pub exact_root : AreExact patterns (root_at (length patterns) ∷ []) []
-  exact_root = record {
-    order = ap (λ n. n ∷ []) (text_node_real patterns (root_at (length patterns)) (inl refl));
-    exact = λ k one other there e. absurd cc;
-  }
+  exact_root = grind (arith, text_node_real, root_at)
 
   -- where each place has a node, the text nodes are those of the trie
   pub all_text_nodes : (ranges : List PatternRange) (nodes : List Node) → AreExact patterns ranges nodes
       → length nodes ≡ length ranges → map of ranges ≡ text_nodes longest_label (texts_of patterns)
-  all_text_nodes ranges nodes are full =
-      let size = length-map ranges of in
-      text_nodes_only longest_label (texts_of patterns) (map of ranges)
-      (are.order
-      ∙ ap (λ ns. Some root ∷ flat_map below ns) (take_all (length nodes) (map of ranges) (omega (arith, size))))
+  all_text_nodes ranges nodes are full = grind (arith, length-map, of, text_nodes_only, flat_map, below, take_all)
 
 same_by_get : {X : Type 0} (xs ys : List X) → length xs ≡ length ys
     → ((k : ℕ) (x : X) → slice_get xs k ≡ Some x → slice_get ys k ≡ Some x) → xs ≡ ys
@@ -306,8 +275,7 @@ module _ (side : Side) (rules : List MappingRule) (bytes : List ℕ) (patterns :
             (answered side rules bytes patterns of_rules few ready range is node.answer (made.least is)
             ∙ ap (answer_at side rules) (sym (text_node_real patterns range is.some)))
         | inr hole ↦
-            (made.bare hole.empty ∙ hole.answer
-            ∙ ap (answer_at side rules) (sym (text_node_hole patterns range hole.empty hole.deep)))
+            grind (arith, text_node_hole)
       ]
 
   -- so the nodes are those of the trie
@@ -324,7 +292,7 @@ module _ (side : Side) (rules : List MappingRule) (bytes : List ℕ) (patterns :
         | inl (range, _, there, _) ↦
             (let of = text_node_of patterns range in
             let text_node_here : slice_get (map (text_node_of patterns) ranges) k ≡ Some of =
-            slice_get-map (text_node_of patterns) ranges k ∙ ap (option_map (text_node_of patterns)) there in
+            grind (arith, slice_get-map, option_map) in
             let count = length (flat_map (children_of patterns) (take k (map (text_node_of patterns) ranges))) in
             let one : 1 + count ≡ suc count = omega arith in
             node_at side rules patterns 1 (map (text_node_of patterns) ranges) k of text_node_here
@@ -351,7 +319,5 @@ pattern_bytes side rules bytes patterns of_rules ready small rule inside acting 
     let full = (subst (λ (p : Pattern). All (λ b. b ≢ 0) p.bytes.now) read (ready.each at one found.1.1).full) k 0 within in
     let stands = (subst (IsPattern side rules bytes) read (of_rules.each at one found.1.1)).is in
     let among : get_or one.bytes.now k 0 ≡ get_or bytes (one.start + k) 0 =
-    ap (λ (t : List ℕ). get_or t k 0) (sym stands.among)
-    ∙ get_or-take (length one.bytes.now) (drop one.start bytes) k 0 within
-    ∙ get_or-drop one.start bytes k 0 in
+    grind (arith, get_or-take, get_or-drop) in
     ((λ z. full (is_byte ∙ z)), omega (arith, is_byte, among, small (one.start + k)))

@@ -1,6 +1,6 @@
 -- The children of a range, appended one after the other.
 use Rattle.std.proofs.Common.{◌≡◌, ◌≢◌, ℕ, ◌+◌, ◌-◌, ◌<◌, ◌≤◌, List, [], ◌∷◌, ◌++◌, length, take, get_or, inl, inr}
-use Rattle.std.proofs.Common.{refl, sym, ap, subst, ◌∙◌, arith, lit≤, rules}
+use Rattle.std.proofs.Common.{sym, ap, subst, ◌∙◌, arith, lit≤, rules}
 use Rattle.std.proofs.lemmas.Bool.{cases_lt}
 use Rattle.std.proofs.lemmas.Option.{slice_get_within}
 use Rattle.virtiofs_map.specs.TrieBuildParts.{text, AreReady, IsLeast, IsUpto, IsPatternRange, IsRangeOrHole, AreAdded}
@@ -37,24 +37,14 @@ module _ {most : ℕ} {patterns : List Pattern} (ready : AreReady most patterns)
       → range.depth < length (text patterns upto) → AreHoles mid new (range.depth + 1) → AreAdded patterns old mid range
       → AreAdded patterns old new range
   added_holes old mid new upto u longer holes added =
-      let place : IsRangeOrHole patterns (hole (range.depth + 1)) = record {
-        is = inr (record { deep = λ e. omega arith; answer = refl; empty = refl; first_byte = refl });
-        deep = inr (record { at = upto; within = omega (arith, is.within); long = omega arith });
-        label = omega arith;
-        size = omega arith;
-        answer = lit≤ tt;
-        empty = λ _. refl;
-      } in
+      let place : IsRangeOrHole patterns (hole (range.depth + 1)) = grind (arith, lit≤) in
       record {
         longer = IsLonger-trans old mid new added.longer holes.longer;
         places = λ at kid b e. elim (cases_lt at (length mid)) [
           | inl in' ↦ added.places at kid b (sym (holes.longer.same at in') ∙ e)
           | inr g ↦ subst (IsRangeOrHole patterns) (sym (holes.holes at kid g e)) place
         ];
-        deeper = λ at kid b e. elim (cases_lt at (length mid)) [
-          | inl in' ↦ added.deeper at kid b (sym (holes.longer.same at in') ∙ e)
-          | inr g ↦ omega (arith, ap (λ (p : PatternRange). p.depth) (holes.holes at kid g e))
-        ];
+        deeper = grind (arith, cases_lt);
       }
 
   -- one child more
@@ -88,28 +78,5 @@ module _ {most : ℕ} {patterns : List Pattern} (ready : AreReady most patterns)
       → get_or (text patterns i) range.depth 0 < get_or (text patterns upto) range.depth 0)
       → IsCut patterns range kid answer
   cut_is kid answer upto high from some top is_low is_high answered first_byte depth size long same stops bytes other
-      apart = record {
-        from = omega arith;
-        some = omega arith;
-        upto = omega arith;
-        answered = answered;
-        first_byte = first_byte ∙ here;
-        depth = depth;
-        size = size;
-        long = rw is_low long;
-        same = rw (is_low, is_high) same;
-        stops = rw (is_low, is_high) stops;
-        bytes = λ i a b. bytes i (omega arith) (omega arith) ∙ here;
-        group = λ i a b e. elim (cases_lt i upto) [
-          | inl l ↦ absurd
-              (omega (arith, apart i a l, e ∙ sym here))
-          | inr g ↦ elim (cases_lt i high) [
-            | inl l ↦ (omega arith, omega arith)
-            | inr h ↦ absurd (
-                let t = row high i (omega arith) h b in
-                other (omega arith) (omega (arith, row upto high from (omega arith) (omega arith), t, e ∙ sym here)))
-          ]
-        ];
-      } where
-        here : get_or (text patterns upto) range.depth 0 ≡ get_or (text patterns kid.low) range.depth 0
-        here = ap (λ n. get_or (text patterns n) range.depth 0) (sym is_low)
+      apart =
+      grind (arith, cases_lt, row)

@@ -2,7 +2,6 @@
 use Rattle.std.proofs.Common.{◌≡◌, ◌≢◌, ℕ, zero, suc, ◌+◌, ◌-◌, ◌<◌, ◌≤◌, Bool, true, false, cond, List, [], ◌∷◌, ◌++◌}
 use Rattle.std.proofs.Common.{length, map, get_or, Some, refl, sym, ap, subst, ◌∙◌, arith, inl, inr, rules}
 use Rattle.std.specs.List.{slice_get, find, range_with_len}
-use Rattle.std.specs.Option.{option_map_or}
 use Rattle.std.proofs.lemmas.Bool.{cases_Bool, cases_lt}
 use Rattle.std.proofs.lemmas.List.{take-append-drop, take_at, get_or_past}
 use Rattle.virtiofs_map.specs.TrieBuildParts.{text, start_of, AreReady, IsPatternRange, IsRangeOrHole, text_node_of}
@@ -32,10 +31,7 @@ find_first : (patterns : List Pattern) (path : List ℕ) (at : ℕ) (one : Patte
     → ((i : ℕ) (other : Pattern) → i < at → slice_get patterns i ≡ Some other → begins path other.bytes.now ≡ true → ⊥)
     → find (λ one. begins path one.bytes.now) patterns ≡ Some one
 find_first [] path at one here starts before = absurd cc
-find_first (p ∷ patterns) path zero one here starts before =
-    let same : p ≡ one = cc in
-    ap (λ b. cond b (Some p) (find (λ (one : Pattern). begins path one.bytes.now) patterns))
-    (ap (λ (o : Pattern). begins path o.bytes.now) same ∙ starts) ∙ ap Some same
+find_first (p ∷ patterns) path zero one here starts before = grind arith
 find_first (p ∷ patterns) path (suc at) one here starts before = elim (cases_Bool (begins path p.bytes.now)) [
   | inl e ↦ absurd (before 0 p (omega arith) refl e)
   | inr e ↦
@@ -65,11 +61,9 @@ module _ {most : ℕ} {patterns : List Pattern} (ready : AreReady most patterns)
       let one = one_at ready is range.low (omega (arith, top)) in
       let found = find_first patterns path range.low one.0 one.1
       (ap (begins path) (sym one.2) ∙ in_begins range.low (omega arith) some)
-      (λ i other l there starts.
-      let same = text-here patterns i other there in
-      omega (arith, begins_in i (omega (arith, top)) (ap (begins path) same ∙ starts))) in
+      (grind (arith, text-here, begins_in, path)) in
       let place : label_place patterns text_node ≡ one.0.start + length path - range.length =
-      ap (λ o. option_map_or (λ (one : Pattern). one.start + length path - range.length) o 0) found in
+      grind (arith, path) in
       omega (arith, start_of-here patterns range.low one.0 one.1, path_size ready is, place)
 
   -- ---- bytes that lead on
@@ -106,8 +100,7 @@ module _ {most : ℕ} {patterns : List Pattern} (ready : AreReady most patterns)
           let at = leads_in ready is x led in
           let e = at.3 in
           elim (cases_lt at.0 from) [
-            | inl d ↦ absurd (let size = ended at.0 at.1 d in
-                omega (arith, get_or_past (text patterns at.0) range.depth 0 (omega (arith, size)), e))
+            | inl d ↦ grind (arith, get_or_past)
             | inr g ↦ omega (arith, row ready is from at.0 l g at.2, e)
           ])
 
@@ -194,24 +187,12 @@ exact_bare most patterns ready base range place bare = elim place.is [
   | inl is ↦ elim is.some [
     | inl flat ↦
         (exact_ended ready is range.answer base 0 (none_on ready is (λ i l u. absurd (omega arith)))
-        (root_label patterns range is bare flat
-        (record { path = path_of_range patterns range; byte = range.first_byte; size = range.length }))
+        (search (rules, root_label))
         ∙ ap (node_with patterns range.answer base) (sym (text_node_real patterns range (inl flat))))
     | inr l ↦ absurd (omega arith)
   ]
   | inr hole ↦
-      (let make : ℕ → ℕ → Node = λ size first_byte. record {
-        answer = range.answer;
-        label = 0;
-        length = size;
-        base = base;
-        width = 0;
-        low_byte = 1;
-        first_byte = first_byte;
-        is_sparse = false;
-      } in
-      ap (λ size. make size range.first_byte) (place.empty bare) ∙ ap (make 0) hole.first_byte
-      ∙ ap (node_with patterns range.answer base) (sym (text_node_hole patterns range bare hole.deep)))
+      grind (arith, text_node_hole)
 ]
 
 -- and it has no children

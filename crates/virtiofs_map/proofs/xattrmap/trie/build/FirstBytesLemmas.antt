@@ -4,7 +4,7 @@ use Rattle.std.proofs.Common.{◌++◌, length, get_or, refl, sym, ap, subst, �
 use Rattle.std.proofs.lemmas.Bool.{cases_lt}
 use Rattle.std.proofs.lemmas.List.{get_or_past}
 use Rattle.virtiofs_map.specs.TrieBuildParts.{text, AreReady, IsPatternRange, path_of_range}
-use Rattle.virtiofs_map.specs.PatternTrie.{leads, next_bytes, last_byte, span, are_sparse}
+use Rattle.virtiofs_map.specs.PatternTrie.{leads, next_bytes, last_byte, are_sparse}
 use Rattle.virtiofs_map.specs.TrieParts.{texts_of}
 use Rattle.virtiofs_map.specs.declared.xattrmap.trie.build.PatternRange.{PatternRange}
 use Rattle.virtiofs_map.specs.declared.xattrmap.trie.patterns.Pattern.{Pattern}
@@ -50,16 +50,7 @@ module _ {most : ℕ} {patterns : List Pattern} (ready : AreReady most patterns)
       (long, omega (arith, no_zero ready i range.depth (omega (arith, is.within)) long))
 
   pub first_bytes_none : AreFirstBytes patterns range (next_of patterns range from) from 1 []
-  first_bytes_none = record {
-    rising = tt;
-    some = omega arith;
-    small = omega arith;
-    each = λ x one. absurd (let none = one.1 in cc);
-    before = λ i a b l. absurd (omega (arith, ended i a b));
-    after = λ i a b. (next_some i a b).1;
-    none = λ _. refl;
-    first = λ x xs e. absurd cc;
-  }
+  first_bytes_none = grind (arith, next_some)
 
   -- the bytes before the place are lower than the one there
   pub first_bytes_apart : (lowest low upto : ℕ) (first_bytes : List ℕ) → from ≤ low → low < range.high
@@ -84,14 +75,13 @@ module _ {most : ℕ} {patterns : List Pattern} (ready : AreReady most patterns)
       let above = are.after low (omega arith) (omega arith) in
       let some = are.some in
       record {
-        rising = rising_more 1 upto first_bytes byte (byte + 1) are.rising (omega (arith, above))
-            (omega (arith, above, some)) (omega arith);
+        rising = grind (arith, rising_more);
         some = omega arith;
         small = omega arith;
         each = λ x one. one_either first_bytes byte x
             (λ y. (i : ℕ) × (range.low ≤ i) × (i < range.high) × (range.depth < length (text patterns i))
             × (next_of patterns range i ≡ y)) one are.each
-            (low, omega (arith, low_from), omega arith, (next_some low a (omega arith)).0, here);
+            (grind (arith, next_some));
         before = λ i b c m. elim (cases_lt i low) [
           | inl d ↦ one_more first_bytes byte (next_of patterns range i) (are.before i b d m)
           | inr d ↦ (let is_byte = same i d c ∙ here in subst (IsOne (first_bytes ++ byte ∷ [])) (sym is_byte)
@@ -106,26 +96,15 @@ module _ {most : ℕ} {patterns : List Pattern} (ready : AreReady most patterns)
         by_first : (first_bytes : List ℕ) → AreFirstBytes patterns range lowest low upto first_bytes → (x : ℕ) (xs : List ℕ)
             → first_bytes ++ byte ∷ [] ≡ x ∷ xs → (x ≡ lowest) × (byte + 1 ≡ last_byte x xs + 1)
         by_first [] are x xs e =
-            (let same_first_byte : byte ≡ x = cc in
-            let same_rest : [] ≡ xs = cc in
-            let none = are.none refl in (
-              sym same_first_byte ∙ sym here ∙ none,
-              ap (λ n. n + 1) same_first_byte ∙ ap (λ ys. last_byte x ys + 1) same_rest,
-            ))
+            (grind arith)
         by_first (y ∷ first_bytes) are x xs e =
             (let same_first_byte : y ≡ x = cc in
             let same_rest : first_bytes ++ byte ∷ [] ≡ xs = cc in
-            let first = are.first y first_bytes refl in (
-              sym same_first_byte ∙ first.0,
-              ap (λ n. n + 1) (sym (last_more y byte first_bytes))
-                  ∙ ap (λ z. last_byte z (first_bytes ++ byte ∷ []) + 1) same_first_byte
-                  ∙ ap (λ ys. last_byte x ys + 1) same_rest,
-            ))
+            let first = are.first y first_bytes refl in (grind (arith, last_more)))
 
   widen : (low high top : ℕ) (xs : List ℕ) → high ≤ top → Rising low high xs → Rising low top xs
   widen low high top [] l rising = tt
-  widen low high top (x ∷ xs) l rising =
-      let b = rising.1 in (rising.0, omega (arith, b), widen (suc x) high top xs l rising.2)
+  widen low high top (x ∷ xs) l rising = grind (arith, widen (suc x) high top xs l rising.2)
 
   -- at the end of the range they are all the bytes that lead on
   pub first_bytes_all : (lowest low upto : ℕ) (first_bytes : List ℕ) → range.high ≤ low
@@ -168,7 +147,7 @@ module _ {most : ℕ} {patterns : List Pattern} (ready : AreReady most patterns)
       ≡ are_sparse (next_bytes (texts_of patterns) (path_of_range patterns range))
   first_bytes_sparse lowest low upto highest count first_bytes past are is_high counted =
       by_first first_bytes are counted (first_bytes_all lowest low upto first_bytes past are) (first_bytes_last lowest low upto first_bytes past are)
-      (are.before from (omega (arith, low_from)) (omega (arith, some_from)) longer) where
+      (grind arith) where
         by_first : (first_bytes : List ℕ) → AreFirstBytes patterns range lowest low upto first_bytes → count ≡ length first_bytes
             → next_bytes (texts_of patterns) (path_of_range patterns range) ≡ first_bytes
             → upto ≡ next_of patterns range (range.high - 1) + 1 → IsOne first_bytes (next_of patterns range from)
@@ -176,7 +155,4 @@ module _ {most : ℕ} {patterns : List Pattern} (ready : AreReady most patterns)
             ≡ are_sparse (next_bytes (texts_of patterns) (path_of_range patterns range))
         by_first [] are counted all last one = absurd (let none = one.1 in cc)
         by_first (x ∷ xs) are counted all last one =
-            (let first = are.first x xs refl in
-            let size : highest + 1 - lowest ≡ span x xs = omega (arith, first.0, first.1, is_high) in
-            ap (λ n. ltb (2 * n + 4) (highest + 1 - lowest)) counted
-            ∙ ap (ltb (2 * length (x ∷ xs) + 4)) size ∙ ap are_sparse (sym all))
+            (grind arith)

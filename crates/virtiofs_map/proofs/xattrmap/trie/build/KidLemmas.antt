@@ -1,5 +1,5 @@
 -- The child of a range to which a byte leads: the patterns of the range that go on with the byte.
-use Rattle.std.proofs.Common.{◌≡◌, ◌≢◌, ℕ, ◌+◌, ◌-◌, ◌<◌, ◌≤◌, List, length, take, get_or, inl, inr, sym, ap, subst}
+use Rattle.std.proofs.Common.{◌≡◌, ◌≢◌, ℕ, ◌+◌, ◌-◌, ◌<◌, ◌≤◌, List, length, take, get_or, inl, inr, sym}
 use Rattle.std.proofs.Common.{◌∙◌, arith, rules}
 use Rattle.std.proofs.lemmas.Bool.{cases_lt}
 use Rattle.std.proofs.lemmas.List.{take-take, take_more_same}
@@ -74,7 +74,7 @@ module _ {most : ℕ} {patterns : List Pattern} (ready : AreReady most patterns)
       let k = inner kid.low (omega arith) cut.some in
       let less = shorter (text patterns i) (text patterns kid.low) kid.depth range.depth (omega (arith, d)) e in
       let here = is.whole i within (less ∙ is.same kid.low k.0 k.1) in
-      cut.group i here.0 here.1 (same_byte (text patterns i) (text patterns kid.low) kid.depth range.depth d e)
+      cut.group i here.0 here.1 (grind (arith, same_byte))
 
   to_kid : (i : ℕ) → IsUpto patterns range i → IsInside patterns kid i
   to_kid i u = record {
@@ -97,14 +97,13 @@ module _ {most : ℕ} {patterns : List Pattern} (ready : AreReady most patterns)
     | inl longer ↦
         absurd (
         let more : take (range.depth + 1) (text patterns i) ≡ take (range.depth + 1) (text patterns kid.low) =
-        sym (ap (take (range.depth + 1)) n.front)
-        ∙ take-take (range.depth + 1) (length (text patterns i)) (text patterns kid.low) (omega arith) in
+        grind (arith, front, take-take) in
         let k = inner kid.low (omega arith) cut.some in
         let less = shorter (text patterns i) (text patterns kid.low) (range.depth + 1) range.depth (omega arith) more in
         let here = is.whole i n.within (less ∙ is.same kid.low k.0 k.1) in
         let there =
         cut.group i here.0 here.1
-        (same_byte (text patterns i) (text patterns kid.low) (range.depth + 1) range.depth (omega arith) more) in
+        (grind (arith, same_byte)) in
         omega (arith, (all_same i there.0 there.1).1))
   ]
 
@@ -116,22 +115,8 @@ module _ {most : ℕ} {patterns : List Pattern} (ready : AreReady most patterns)
     long = λ i l u. (all_same i l u).1;
     same = λ i l u. (all_same i l u).0;
     whole = whole;
-    least = IsLeast-same patterns (IsUpto patterns range) (IsInside patterns kid) kid.answer
-        (subst (IsLeast patterns (IsUpto patterns range)) (sym cut.answered) least) to_kid from_kid;
+    least = grind (arith, IsLeast-same, to_kid, from_kid);
   }
 
   pub kid_is_place : IsRangeOrHole patterns kid
-  kid_is_place = record {
-    is = inl kid_range;
-    deep = inr
-        (record {
-          at = kid.low;
-          within = let s = cut.some in let a = cut.upto in let b = is.within in
-              omega (arith, a, b, s);
-          long = cut.long;
-        });
-    label = omega (arith, cut.depth);
-    size = cut.size;
-    answer = omega (arith, least.top, cut.answered);
-    empty = λ e. absurd (omega (arith, cut.some));
-  }
+  kid_is_place = grind (arith, kid_range)

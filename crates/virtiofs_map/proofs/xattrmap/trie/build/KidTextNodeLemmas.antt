@@ -3,16 +3,15 @@ use Rattle.std.proofs.Common.{◌≡◌, ℕ, zero, suc, ◌+◌, ◌-◌, ◌<�
 use Rattle.std.proofs.Common.{length, map, take, drop, get_or, Option, Some, None, refl, sym, ap, subst, ◌∙◌, arith}
 use Rattle.std.proofs.Common.{◌⊎◌, add-one, length-append, append_assoc, append-nil, inl, inr, rules}
 use Rattle.std.specs.List.{slice_get, range_with_len, AllByRecursion}
-use Rattle.std.specs.Option.{option_map}
 use Rattle.std.proofs.lemmas.Bool.{cases_Bool, cases_lt}
 use Rattle.std.proofs.lemmas.List.FromFn.{length-range_with_len}
 use Rattle.std.proofs.lemmas.List.{take-append-drop, take-take, length-map, length-take-le, drop-take, map-append}
 use Rattle.std.proofs.lemmas.Option.{slice_get-map, slice_get_within}
 use Rattle.std.proofs.Math.Seq.{get_or-append_seam}
-use Rattle.virtiofs_map.specs.TrieBuildParts.{text, AreReady, IsLeast, IsUpto, IsPatternRange, AreHoles, hole}
+use Rattle.virtiofs_map.specs.TrieBuildParts.{text, AreReady, IsLeast, IsUpto, IsPatternRange, AreHoles}
 use Rattle.virtiofs_map.specs.TrieBuildParts.{text_node_of, path_of_range}
 use Rattle.virtiofs_map.specs.Names.{begins}
-use Rattle.virtiofs_map.specs.PatternTrie.{TextNode, leads, next_bytes, label_after, text_node_after, child, children}
+use Rattle.virtiofs_map.specs.PatternTrie.{TextNode, leads, next_bytes, label_after, child, children}
 use Rattle.virtiofs_map.specs.PatternTrie.{slots, are_sparse, last_byte, longest_label}
 use Rattle.virtiofs_map.specs.TrieParts.{texts_of, children_of}
 use Rattle.virtiofs_map.specs.declared.xattrmap.trie.build.PatternRange.{PatternRange}
@@ -85,12 +84,7 @@ module _ {most : ℕ} {patterns : List Pattern} (ready : AreReady most patterns)
   longer = omega (arith, cut.depth, cut.long)
 
   kid_path : path_of_range patterns kid ≡ path ++ kid.first_byte ∷ label
-  kid_path =
-      let here = inside kid.low (omega arith) cut.some in
-      ap (λ n. take n (text patterns kid.low)) cut.depth
-      ∙ front_and_more range.depth kid.length (text patterns kid.low) longer
-      ∙ ap (λ w. w ++ get_or (text patterns kid.low) range.depth 0 ∷ label) (is.same kid.low here.0 here.1)
-      ∙ ap (λ b. path ++ b ∷ label) (sym cut.first_byte)
+  kid_path = grind (arith, inside, front_and_more, longer, label, path)
 
   label_size : length label ≡ kid.length
   label_size =
@@ -125,8 +119,7 @@ module _ {most : ℕ} {patterns : List Pattern} (ready : AreReady most patterns)
       let one = one_at ready is i (omega (arith, (inside i l u).1, is.within)) in
       record {
         at = i;
-        here = slice_get-map (λ (one : Pattern). one.bytes.now) patterns i
-            ∙ ap (option_map (λ (one : Pattern). one.bytes.now)) one.1 ∙ ap Some (sym one.2);
+        here = grind (arith, slice_get-map);
         starts = begins_trans front (front ++ label) (text patterns i) (begins_from front (front ++ label) label refl)
             (whole i l u);
       }
@@ -144,34 +137,16 @@ module _ {most : ℕ} {patterns : List Pattern} (ready : AreReady most patterns)
       kid_led (omega (arith, size, cut.size)) goes_on_all
       (text_in kid.low (omega arith) some)
       (text_in (kid.high - 1) (omega (arith, some)) (omega (arith, some)))
-      (λ less byte one other.
-      let first = byte_there (front ++ label) (text patterns kid.low) byte kid.depth at one in
-      let second = byte_there (front ++ label) (text patterns (kid.high - 1)) byte kid.depth at other in
-      cut.stops (omega (arith, size)) first.0 second.0 (first.1 ∙ sym second.1))
+      (grind (arith, byte_there, front, label))
 
   -- it is the child of the range's path for the kid's byte
   pub kid_text_node : text_node_of patterns kid ≡ child longest_label (texts_of patterns) (path_of_range patterns range) kid.first_byte
-  kid_text_node =
-      text_node_real patterns kid (inr cut.some)
-      ∙ ap Some (as_text_node (path_of_range patterns kid) (path ++ kid.first_byte ∷ label) kid.length (length label) kid_path
-      (sym label_size))
-      ∙ ap (λ l. Some (text_node_after path kid.first_byte l)) kid_label
-      ∙ sym (child_some longest_label (texts_of patterns) path kid.first_byte kid_led) where
-        as_text_node : (p q : List ℕ) (m n : ℕ) → p ≡ q → m ≡ n
-            → ◌≡◌ {A = TextNode} (record { path = p; byte = kid.first_byte; size = m })
-            (record { path = q; byte = kid.first_byte; size = n })
-        as_text_node p q m n e f =
-            (let by_path : List ℕ → TextNode = λ w. record { path = w; byte = kid.first_byte; size = m } in
-            let by_size : ℕ → TextNode = λ k. record { path = q; byte = kid.first_byte; size = k } in
-            ap by_path e ∙ ap by_size f)
+  kid_text_node = grind (arith, text_node_real, path, label, kid_path, label_size, kid_label, child_some, kid_led)
 
 -- ---- children so far
 
 range_both : (a m n : ℕ) → range_with_len a (m + n) ≡ range_with_len a m ++ range_with_len (a + m) n
-range_both a zero n =
-    let from : a ≡ a + 0 = omega arith in
-    let size : 0 + n ≡ n = omega arith in
-    ap (range_with_len a) size ∙ ap (λ b. range_with_len b n) from
+range_both a zero n = grind arith
 range_both a (suc m) n =
     let size : suc m + n ≡ suc (m + n) = omega arith in
     let from : a + 1 + m ≡ a + suc m = omega arith in
@@ -236,8 +211,7 @@ module _ {most : ℕ} {patterns : List Pattern} (ready : AreReady most patterns)
               | inr d ↦ (let u = at.2 in
                   omega (arith, row ready is low at.0 from d u, e))
             ])
-        | inr none ↦ ap (λ t. cond t (Some (text_node_after (path_of_range patterns range) b
-            (label_after longest_label (texts_of patterns) (path_of_range patterns range ++ b ∷ [])))) None) none
+        | inr none ↦ grind arith
       ]
 
   -- as many places as bytes
@@ -258,18 +232,14 @@ module _ {most : ℕ} {patterns : List Pattern} (ready : AreReady most patterns)
       let all : byte - lowest ≡ (upto - lowest) + n = omega (arith, above, least) in
       let rest = longer_by (text_node_of patterns) kid_of None mid new (lowest + (upto - lowest)) n
       (omega (arith, size, kids_size old mid lowest (upto - lowest) have, all)) holes.longer.same
-      (λ at range_there past e.
-      let is_hole = holes.holes at range_there past e in
-      ap (text_node_of patterns) is_hole ∙ text_node_hole patterns (hole (range.depth + 1)) refl (omega arith))
+      (grind (arith, text_node_hole))
       (λ b a u. no_kid lowest low upto b first_bytes from l are (omega (arith, a)) (omega (arith, u, all, above, least))) in
       rest
       ∙ ap (λ ns. ns ++ map kid_of (range_with_len (lowest + (upto - lowest)) n)) have
       ∙ append_assoc (map (text_node_of patterns) old) (map kid_of (range_with_len lowest (upto - lowest)))
       (map kid_of (range_with_len (lowest + (upto - lowest)) n))
       ∙ ap (λ ns. map (text_node_of patterns) old ++ ns)
-      (sym (map-append kid_of (range_with_len lowest (upto - lowest)) (range_with_len (lowest + (upto - lowest)) n))
-      ∙ ap (map kid_of) (sym (range_both lowest (upto - lowest) n))
-      ∙ ap (λ k. map kid_of (range_with_len lowest k)) (sym all))
+      (grind (arith, map-append, kid_of, range_both))
 
   -- one child more
   pub kids_more : (old mid : List PatternRange) (kid : PatternRange) (bytes : List ℕ) → HaveKids old mid bytes

@@ -1,12 +1,11 @@
 -- The nodes of a trie, level by level.
-use Rattle.std.proofs.Common.{◌≡◌, ℕ, ◌+◌, ◌-◌, ◌<◌, ◌≤◌, List, [], ◌∷◌, ◌++◌, Option, Some, length, drop, min, zero}
-use Rattle.std.proofs.Common.{suc, inl, inr, refl, sym, ap, ◌∙◌, arith, lit≤, slice_get, rules}
-use Rattle.std.specs.Option.{option_map_or}
+use Rattle.std.proofs.Common.{◌≡◌, ℕ, ◌+◌, ◌-◌, ◌<◌, ◌≤◌, List, [], ◌∷◌, ◌++◌, Some, length, drop, min, zero}
+use Rattle.std.proofs.Common.{suc, inl, inr, refl, ap, ◌∙◌, arith, lit≤, slice_get, rules}
 use Rattle.std.proofs.lemmas.Bool.{cases_lt}
 use Rattle.std.proofs.lemmas.List.{length_push}
 use Rattle.std.proofs.lemmas.Option.{slice_get_cases, slice_get_within}
 use Rattle.virtiofs_map.specs.NodeParts.{no_answer}
-use Rattle.virtiofs_map.specs.TrieBuildParts.{AreReady, IsPatternRange, AreRangesOrHoles, AreDeep, AreBuilt, IsExpanded}
+use Rattle.virtiofs_map.specs.TrieBuildParts.{AreReady, AreRangesOrHoles, AreDeep, AreBuilt, IsExpanded}
 use Rattle.virtiofs_map.specs.declared.xattrmap.trie.node.Node.{Node}
 use Rattle.virtiofs_map.specs.declared.xattrmap.trie.build.PatternRange.{PatternRange}
 use Rattle.virtiofs_map.specs.declared.xattrmap.trie.patterns.Pattern.{Pattern}
@@ -40,11 +39,8 @@ deeper_more patterns old new range node at end depth here made deep deeper = sea
 abbrev pub root : ℕ → PatternRange
 root high = record { low = 0; high = high; depth = 0; length = 0; answer = no_answer; first_byte = 0 }
 
-root_range : (patterns : List Pattern) → IsPatternRange patterns (root (length patterns))
-root_range patterns = search (rules, lit≤)
-
 pub root_places : (patterns : List Pattern) → AreRangesOrHoles patterns (root (length patterns) ∷ [])
-root_places patterns = search (rules, push_cases, root_range, lit≤)
+root_places patterns = grind (arith, push_cases, lit≤)
 
 pub root_built : (patterns : List Pattern) (ranges : List PatternRange) → AreBuilt patterns ranges []
 root_built patterns ranges = search rules
@@ -59,8 +55,7 @@ shallowest most (range ∷ ranges) = min range.depth (shallowest most ranges)
 shallow_at : (most : ℕ) (ranges : List PatternRange) (k : ℕ) (range : PatternRange) → slice_get ranges k ≡ Some range
     → shallowest most ranges ≤ range.depth
 shallow_at most [] k range e = absurd cc
-shallow_at most (p ∷ ranges) zero range e =
-    (omega (arith, ap (λ (o : Option PatternRange). option_map_or (λ (one : PatternRange). one.depth) o 0) e))
+shallow_at most (p ∷ ranges) zero range e = grind arith
 shallow_at most (p ∷ ranges) (suc k) range e = omega (arith, shallow_at most ranges k range e)
 
 all_shallow : (most depth : ℕ) (ranges : List PatternRange) → depth ≤ most
@@ -92,6 +87,6 @@ levels_fall most patterns old new from next ready places below deeper =
           let low =
           all_shallow (most + 1) (shallowest (most + 1) (drop from old) + 1) (drop next new)
           (omega (arith, first, reach))
-          (λ k one e. then.deep (next + k) one (omega arith) (sym (slice_get-drop next new k) ∙ e)) in
+          (grind (arith, slice_get-drop)) in
           omega (arith, low, first, reach))
     ]

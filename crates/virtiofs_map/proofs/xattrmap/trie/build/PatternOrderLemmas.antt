@@ -45,8 +45,7 @@ module _ {most : ℕ} {patterns : List Pattern} (ready : AreReady most patterns)
       → get_or (text patterns i) depth 0 ≤ get_or (text patterns j) depth 0
   rising i j depth l within e = elim (cases_lt i j) [
     | inl below ↦ apart below
-    | inr g ↦ (let same : i ≡ j = omega arith in let same_text =
-        ap (λ n. get_or (text patterns n) depth 0) same in omega (arith, same_text))
+    | inr g ↦ grind arith
   ] where
     apart : i < j → get_or (text patterns i) depth 0 ≤ get_or (text patterns j) depth 0
     apart below = elim (slice_get_cases patterns i).1 [
@@ -54,12 +53,7 @@ module _ {most : ℕ} {patterns : List Pattern} (ready : AreReady most patterns)
       | inl (one, _, here, _) ↦ elim (slice_get_cases patterns j).1 [
         | inr (past, _) ↦ absurd (omega (arith, within, past))
         | inl (other, _, there, _) ↦
-            (let a = text-here patterns i one here in
-            let b = text-here patterns j other there in
-            let low =
-            ready.order.rising i j depth one other below here there
-            (ap (take depth) (sym a) ∙ e ∙ ap (take depth) b) in
-            omega (arith, low, ap (λ (s : List ℕ). get_or s depth 0) a, ap (λ (s : List ℕ). get_or s depth 0) b))
+            grind (arith, text-here)
       ]
     ]
 

@@ -37,10 +37,7 @@ split_at d s l = sym (take-append-drop d s) ∙ ap (λ t. take d s ++ t) (drop_m
 module _ {most : ℕ} {patterns : List Pattern} (ready : AreReady most patterns) {range : PatternRange}
     (is : IsPatternRange patterns range) where
   pub path_size : length (path_of_range patterns range) ≡ range.depth
-  path_size = elim is.some [
-    | inl z ↦ omega (arith, length-take range.depth (text patterns range.low))
-    | inr l ↦ length-take-le range.depth (text patterns range.low) (is.long range.low (omega arith) l)
-  ]
+  path_size = grind (arith, length-take, length-take-le)
 
   -- a pattern of the range
   pub one_at : (i : ℕ) → i < length patterns → (one : Pattern) × (slice_get patterns i ≡ Some one)
@@ -58,12 +55,9 @@ module _ {most : ℕ} {patterns : List Pattern} (ready : AreReady most patterns)
       let one = one_at i (omega (arith, is.within)) in
       let rest = drop (range.depth + 1) (text patterns i) in
       let whole : text patterns i ≡ (path_of_range patterns range ++ byte ∷ []) ++ rest =
-      split_at range.depth (text patterns i) longer
-      ∙ ap (λ t. t ++ get_or (text patterns i) range.depth 0 ∷ rest) (is.same i from upto)
-      ∙ ap (λ b. path_of_range patterns range ++ b ∷ rest) next
-      ∙ sym (append_assoc (path_of_range patterns range) (byte ∷ []) rest) in
+      grind (arith, split_at, append_assoc) in
       leads_by patterns (path_of_range patterns range ++ byte ∷ []) i one.0 one.1
-      (begins_from (path_of_range patterns range ++ byte ∷ []) one.0.bytes.now rest (sym one.2 ∙ whole))
+      (grind (arith, begins_from))
 
   -- and a byte that leads on is the one with which a pattern of the range goes on
   pub goes_in : (i byte : ℕ) → i < length patterns
@@ -74,8 +68,7 @@ module _ {most : ℕ} {patterns : List Pattern} (ready : AreReady most patterns)
       let rest = drop (length (path ++ byte ∷ [])) (text patterns i) in
       let split : text patterns i ≡ path ++ (byte ∷ rest) = begins_split (path ++ byte ∷ []) (text patterns i) b
       ∙ append_assoc path (byte ∷ []) rest in
-      let front : take range.depth (text patterns i) ≡ path = ap (take range.depth) split
-      ∙ take_at path (byte ∷ rest) range.depth path_size in
+      let front : take range.depth (text patterns i) ≡ path = grind (arith, take_at, path_size) in
       let inside = is.whole i within front in
       let next : get_or (text patterns i) range.depth 0 ≡ byte =
       ap (λ (s : List ℕ). get_or s range.depth 0) split
@@ -88,5 +81,5 @@ module _ {most : ℕ} {patterns : List Pattern} (ready : AreReady most patterns)
       let found = begun patterns (path_of_range patterns range ++ byte ∷ []) led in
       let here = text-here patterns found.at found.one found.here in
       let goes = goes_in found.at byte (slice_get_within patterns found.at found.one found.here)
-      (ap (begins (path_of_range patterns range ++ byte ∷ [])) here ∙ found.starts) in
+      (grind arith) in
       (found.at, goes.0, goes.1, goes.2)

@@ -1,5 +1,5 @@
 -- The node of a range, and the places of its children.
-use Rattle.std.proofs.Common.{◌≡◌, ◌≢◌, ◌⊎◌, ℕ, ◌<◌, ◌≤◌, List, Some, length, take, get_or, inl, inr, refl, sym, ap}
+use Rattle.std.proofs.Common.{◌≡◌, ◌≢◌, ◌⊎◌, ℕ, ◌<◌, ◌≤◌, List, Some, length, get_or, inl, inr, refl, sym}
 use Rattle.std.proofs.Common.{◌∙◌, arith, slice_get, take_all, rules}
 use Rattle.std.proofs.lemmas.Bool.{cases_lt}
 use Rattle.std.proofs.lemmas.Option.{slice_get_read, slice_get_within}
@@ -34,11 +34,6 @@ inside_from_upto : (patterns : List Pattern) (range : PatternRange) (i : ℕ) �
     → length (text patterns i) < range.depth → IsInside patterns range i
 inside_from_upto patterns range i u l = record { within = u.within; short = l; front = u.front }
 
--- the answer of the path of a range with no pattern
-least_bare : (patterns : List Pattern) (range : PatternRange) → range.low ≡ range.high → IsPatternRange patterns range
-    → IsLeast patterns (IsUpto patterns range) range.answer
-least_bare patterns range e is = search (rules, IsLeast-same, upto_from_inside, cases_lt, inside_from_upto, in_range)
-
 -- the answer of the path of a range whose first patterns have ended
 pub least_ended : (most : ℕ) (patterns : List Pattern) → AreReady most patterns → (range : PatternRange) (from answer : ℕ)
     → IsPatternRange patterns range → range.low ≤ from → from ≤ range.high
@@ -54,8 +49,7 @@ least_ended most patterns ready range from answer is l u ended other least =
           record {
             within = omega (arith, u, is.within);
             short = omega (arith, e);
-            front = ap (λ n. take n (text patterns range.low)) e ∙ sym (is.same i a (omega (arith, u)))
-                ∙ take_all range.depth (text patterns i) (omega (arith, e));
+            front = grind (arith, take_all);
           }
 
       either : (i : ℕ) → IsUpto patterns range i → IsInside patterns range i ⊎ ((range.low ≤ i) × (i < from))
@@ -99,7 +93,8 @@ expanded_on patterns old new range node places added built = record {
 -- the node of a range with no pattern
 pub built_bare : (patterns : List Pattern) (range : PatternRange) (node : Node) → range.low ≡ range.high
     → node.answer ≡ range.answer → IsBuilt patterns range node
-built_bare patterns range node bare answer = search (rules, least_bare)
+built_bare patterns range node bare answer =
+    grind (arith, IsLeast-same, upto_from_inside, cases_lt, inside_from_upto, in_range)
 
 -- and of a range with some
 pub built_some : (patterns : List Pattern) (range : PatternRange) (node : Node) (answer : ℕ) → range.low < range.high

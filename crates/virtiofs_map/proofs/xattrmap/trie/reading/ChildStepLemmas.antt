@@ -26,7 +26,7 @@ module _ (image : List ℕ) (first labels : ℕ) (nodes : List Node) (has : HasR
       let bytes = subst HasBytes is (has.bytes at node below) in (
         omega (arith, below, has.within),
         record {
-          is = sym (inside image (8 * first) (24 * length nodes) (at * 24) 24 (omega (arith, below)))
+          is = sym (search (rules, inside))
               ∙ ap (λ (l : List ℕ). take 24 (drop (at * 24) l)) has.are
               ∙ row_at (row_in first labels) (λ one. length-row_of (placed first labels one)) nodes at node below
               ∙ ap (row_in first labels) is;
@@ -51,7 +51,7 @@ module _ (image : List ℕ) (first labels : ℕ) (nodes : List Node) (has : HasR
       record {
         node = there.0;
         here = there.1;
-        is = subst (λ n. IsRow first labels there.0 (take 24 (drop n image))) same row.1;
+        is = grind arith;
       }
 
   -- the row that stands so many places behind the first child of a node
@@ -62,12 +62,7 @@ module _ (image : List ℕ) (first labels : ℕ) (nodes : List Node) (has : HasR
   child_there parent bytes start behind place readable below is_start is_place =
       let there = there_is_one nodes (parent.base + behind) (omega arith) in
       let row = row_there (parent.base + behind) there.0 there.1 in
-      let same : 8 * first + (parent.base + behind) * 24 ≡ place = omega arith in (
-        there.0,
-        there.1,
-        (omega (arith, row.0, same)),
-        subst (λ n. IsRow first labels there.0 (take 24 (drop n image))) same row.1,
-      )
+      let same : 8 * first + (parent.base + behind) * 24 ≡ place = omega arith in (grind arith)
 
 -- the label of a node stands in the image at its place there
 pub label_there : (image bytes : List ℕ) (labels : ℕ) (node : Node) (from count : ℕ)
@@ -94,11 +89,10 @@ module _ (nodes : List Node) (bytes : List ℕ) (parent : Node) (byte : ℕ)
       let wide : 1 ≤ parent.width = omega (arith, from, below) in
       let slots = readable.placed flat wide in
       let there : parent.base + (at - parent.base) ≡ at = omega (arith, from) in
-      let here : slice_get nodes (parent.base + (at - parent.base)) ≡ Some child = ap (slice_get nodes) there
-      ∙ leads.here in
+      let here : slice_get nodes (parent.base + (at - parent.base)) ≡ Some child = grind arith in
       let real : child.first_byte ≢ 0 = λ none. leads.real (sym leads.first_byte ∙ none) in
       let stands : child.first_byte ≡ parent.low_byte + (at - parent.base) =
-      slots.slots (at - parent.base) child (omega (arith, from, below)) here real in
+      grind arith in
       omega (arith, stands, leads.first_byte, slots.low_byte, slots.high, from, below, far, fits)
 
   -- no child stands there

@@ -32,31 +32,18 @@ base_of_flagged base is_sparse small = grind arith
 pub dense_flagged : (base : ℕ) (is_sparse : Bool) → is_sparse ≡ false → flagged base is_sparse ≡ base
 dense_flagged base is_sparse dense = grind arith
 
--- the flag is the highest bit of the last byte
-flag_of_byte : (base : ℕ) (is_sparse : Bool) (rest byte : ℕ) → base < 140737488355328 → rest < 65536
-    → byte ≡ (65536 * flagged base is_sparse + rest) / 72057594037927936 % 256 → nat_le 128 byte ≡ is_sparse
-flag_of_byte base is_sparse rest byte small few is = grind (arith, nat_tests)
-
 module _ (node : Node) (row : List ℕ) (of : IsRowOf node row) where
   pub first_u64_of : le_u64_at row 0 ≡ first_u64 node
   unfolding row_of
-  first_u64_of =
-      let first_byte = of.bytes.first_byte in
-      ap (λ (l : List ℕ). le_u64_at l 0) of.is
-      ∙ first_of_three _ (second_u64 node) node.answer (omega (arith, of.small.label, of.small.size, first_byte))
+  first_u64_of = grind (arith, first_of_three, second_u64)
 
   pub second_u64_of : le_u64_at row 8 ≡ second_u64 node
   unfolding row_of
-  second_u64_of =
-      let first = flagged_fits node.base node.is_sparse of.small.base in
-      ap (λ (l : List ℕ). le_u64_at l 8) of.is
-      ∙ second_of_three (first_u64 node) _ node.answer (omega (arith, first, of.small.width, of.bytes.low_byte))
+  second_u64_of = grind (arith, flagged_fits, second_of_three, first_u64)
 
   pub third_u64_of : le_u64_at row 16 ≡ node.answer
   unfolding row_of
-  third_u64_of =
-      ap (λ (l : List ℕ). le_u64_at l 16) of.is
-      ∙ third_of_three (first_u64 node) (second_u64 node) _ (omega (arith, of.small.answer))
+  third_u64_of = grind (arith, third_of_three, first_u64, second_u64)
 
   -- what is above the lower two bytes of the second number
   pub flagged_of : (n : ℕ) → n ≡ le_u64_at row 8 → n / 65536 ≡ flagged node.base node.is_sparse
@@ -82,10 +69,7 @@ module _ (node : Node) (row : List ℕ) (of : IsRowOf node row) where
 
   pub byte_of_flag : nat_le 128 (get_or row 15 0) ≡ node.is_sparse
   unfolding row_of le_u64_bytes
-  byte_of_flag =
-      let byte : get_or row 15 0 ≡ second_u64 node / 72057594037927936 % 256 = ap (λ (l : List ℕ). get_or l 15 0) of.is in
-      flag_of_byte node.base node.is_sparse (256 * node.width + node.low_byte) _ of.small.base
-      (omega (arith, of.small.width, of.bytes.low_byte)) byte
+  byte_of_flag = grind (arith, second_u64, nat_tests)
 
 -- numbers that fit are not wrapped
 pub first_wrapped : (node : Node) → IsSmall node → HasBytes node
@@ -128,21 +112,14 @@ moved_row first labels node image one all rest row word is bytes small begun who
     let here : le_u64_at row 0 ≡ first_u64 (placed first 0 node) =
     first_u64_of (placed first 0 node) row record {
       is = is;
-      small = record {
-        answer = small.answer;
-        label = omega arith;
-        size = small.size;
-        base = small.base;
-        width = small.width;
-      };
+      small = grind arith;
       bytes = record { low_byte = bytes.low_byte; first_byte = bytes.first_byte };
     } in
     let word_is : word ≡ first_u64 (placed first labels node) = omega (arith, here) in
     let second = le_u64_bytes (second_u64 (placed first labels node)) in
     let third = le_u64_bytes node.answer in
     let behind : drop 8 row ≡ second ++ third =
-    ap (drop 8) (is ∙ append_assoc (le_u64_bytes (first_u64 (placed first 0 node))) second third)
-    ∙ drop_eight (first_u64 (placed first 0 node)) (second ++ third) in
+    grind (arith, append_assoc, first_u64, drop_eight) in
     rw (whole, left, behind, begun, word_is) (simp append_assoc)
 
 -- the rows of the nodes so far, and one more
@@ -157,9 +134,7 @@ rows_next first labels nodes rows image one all row at are bytes small here slic
     let below : at < length nodes = omega (arith, ap length are ∙ length-rows_in first 0 nodes, here) in
     let node = get_or nodes at nothing in
     let width : at * 24 + 24 - at * 24 ≡ 24 = omega arith in
-    let is : row ≡ row_in first 0 node = slice ∙ ap (λ (n : ℕ). take n (drop (at * 24) rows)) width
-    ∙ ap (λ (l : List ℕ). take 24 (drop (at * 24) l)) are
-    ∙ row_at (row_in first 0) (λ node. length-row_of (placed first 0 node)) nodes at nothing below in
+    let is : row ≡ row_in first 0 node = grind (arith, row_at, length-row_of) in
     after first node is (bytes at nothing below) (small at nothing below)
     ∙ ap (λ (l : List ℕ). l ++ row_in first labels node) before
     ∙ append_assoc image (flat_map (row_in first labels) (take at nodes)) (row_in first labels node)

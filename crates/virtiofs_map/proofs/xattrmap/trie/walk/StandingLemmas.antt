@@ -1,6 +1,6 @@
 -- A walk along a trie: where it stands, and what it has found where it ends.
 use Rattle.std.proofs.Common.{◌≡◌, ◌≢◌, inl, inr, ℕ, suc, ◌+◌, ◌-◌, ◌<◌, ◌≤◌, Bool, true, List, [], ◌∷◌, ◌++◌, length}
-use Rattle.std.proofs.Common.{take, Contains, slice_get, Some, refl, sym, ap, ◌∙◌, arith, rules}
+use Rattle.std.proofs.Common.{take, Contains, slice_get, Some, refl, sym, ap, ◌∙◌, arith}
 use Rattle.std.proofs.lemmas.Bool.{cases_lt, true≢false}
 use Rattle.std.proofs.lemmas.List.{append_assoc, length-append, take_at}
 use Rattle.std.proofs.lemmas.List.Elements.{All-same}
@@ -14,7 +14,7 @@ use Rattle.virtiofs_map.specs.declared.xattrmap.trie.node.Node.{Node}
 use Rattle.virtiofs_map.specs.declared.xattrmap.scopes.Side.{Side}
 use Rattle.virtiofs_map.proofs.BeginsLemmas.{begins_length}
 use Rattle.virtiofs_map.proofs.xattrmap.FittingLemmas.{begins_front, deciding_within, fits_is, front_more, label_begins}
-use Rattle.virtiofs_map.proofs.xattrmap.FittingLemmas.{same_deciding, same_first}
+use Rattle.virtiofs_map.proofs.xattrmap.FittingLemmas.{same_first}
 use Rattle.virtiofs_map.proofs.xattrmap.trie.SharedLemmas.{most_at_least, most_at_most, shared_front, shared_misses}
 use Rattle.virtiofs_map.proofs.xattrmap.trie.SharedLemmas.{shared_path, shared_whole, shared_within}
 use Rattle.virtiofs_map.proofs.xattrmap.PathLemmas.{path_no_zero, path_short}
@@ -59,12 +59,8 @@ module _ (side : Side) (rules : List MappingRule) (nodes : List Node) (bytes : L
             at = step.to.place;
             here = leads.here;
             real = is_real node child step.byte step.to.place leads;
-            split = stands.split ∙ ap (λ more. trie.path stands.at ++ more) step.passed
-                ∙ sym (append_assoc (trie.path stands.at) (step.byte ∷ label_of bytes child) left)
-                ∙ ap (λ front. front ++ left) (sym path);
-            counted = let size = ap length path in let both =
-                length-append (trie.path stands.at) (step.byte ∷ label_of bytes child) in let was =
-                stands.counted in omega (arith, size, both, was);
+            split = grind (arith, append_assoc);
+            counted = grind (arith, length-append);
           }
 
       -- ---- the end of the path
@@ -74,19 +70,9 @@ module _ (side : Side) (rules : List MappingRule) (nodes : List Node) (bytes : L
           → length (trie.path stands.at) < shared (pattern side rule) name
           → begins (trie.path stands.at ++ byte ∷ []) (pattern side rule) ≡ true
       next_byte byte left some rule more =
-          let split : name ≡ trie.path stands.at ++ byte ∷ left = stands.split
-          ∙ ap (λ row. trie.path stands.at ++ row) some in
+          let split : name ≡ trie.path stands.at ++ byte ∷ left = grind arith in
           ap (λ row. begins row (pattern side rule)) (sym (front_more (trie.path stands.at) left name byte split))
           ∙ shared_front (pattern side rule) name (suc (length (trie.path stands.at))) (omega arith)
-
-      -- so the path that a pattern begins is shared
-      path_shared : length (trie.path stands.at) ≤ most_shared side rules name
-      path_shared = elim this.front [
-        | inl none ↦ omega (arith, ap length none)
-        | inr of ↦
-            (let path = shared_path (trie.path stands.at) rest name (pattern side of.rule) stands.split of.starts in
-            omega (arith, most_at_least side rules name of.rule of.inside of.acting, path))
-      ]
 
       module _ (after : ℕ) (ends : Ends nodes node rest before after) where
         -- where no child is there, no pattern shares more than the path
@@ -103,15 +89,7 @@ module _ (side : Side) (rules : List MappingRule) (nodes : List Node) (bytes : L
               ends.nowhere byte left some there.0 there.1 there.2
 
         most_at_end : most_shared side rules name ≡ length (trie.path stands.at)
-        most_at_end =
-            omega (arith, path_shared, most_at_most side rules name (length (trie.path stands.at)) each) where
-              each : (rule : MappingRule) → Contains rules rule → acts side rule ≡ true
-                  → shared (pattern side rule) name ≤ length (trie.path stands.at)
-              each rule within acting =
-                  elim (cases_lt (length (trie.path stands.at)) (shared (pattern side rule) name)) [
-                    | inl more ↦ absurd (stops rule within acting more)
-                    | inr low ↦ low
-                  ]
+        most_at_end = grind (arith, this, shared_path, most_at_least, most_at_most, cases_lt, stops)
 
       module _ (whole : Bool) (after : ℕ) (misses : Misses nodes bytes node rest whole before after) where
         missed : name ≡ trie.path stands.at ++ misses.byte ∷ misses.left
@@ -161,15 +139,13 @@ module _ (side : Side) (rules : List MappingRule) (nodes : List Node) (bytes : L
                     (let both = length-append (trie.path stands.at) (misses.byte ∷ label_of bytes misses.child) in
                     omega (arith, ap length (sym none ∙ path_on), both))
                 | inr of ↦
-                    (let is = label_shared of.rule (ap (λ row. begins row (pattern side of.rule)) (sym path_on)
-                    ∙ of.starts) in
+                    (let is = label_shared of.rule (search path_on) in
                     omega (arith, is, most_at_least side rules name of.rule of.inside of.acting))
               ]
 
       module _ (whole : Bool) (after : ℕ) (stays : StaysAt nodes bytes node rest whole before after) where
         front_is : take (length (trie.path stands.at)) name ≡ trie.path stands.at
-        front_is = ap (take (length (trie.path stands.at))) stands.split
-            ∙ take_at (trie.path stands.at) rest (length (trie.path stands.at)) refl
+        front_is = grind (arith, take_at)
 
         -- no rule whose pattern is longer than the path fits
         none_longer : (rule : MappingRule) → Contains rules rule → acts side rule ≡ true
@@ -206,20 +182,14 @@ module _ (side : Side) (rules : List MappingRule) (nodes : List Node) (bytes : L
         answers = this.answers ∙ ap (answer_for rules) (sym first_is)
 
         decided : deciding_length side rules name ≤ length (trie.path stands.at)
-        decided = let same = same_deciding side rules name (trie.path stands.at) first_is in let low =
-            deciding_within side rules (trie.path stands.at) in omega (arith, same, low)
+        decided = search (first_is, deciding_within)
 
         -- where no step is left, the node has the answer, and its path was passed
         pub stands_passed : Passes side rules name node.answer (length name - length rest)
         stands_passed =
             let size : length name - length rest ≡ length (trie.path stands.at) = omega (arith, path_within) in
             record {
-              walks = record {
-                answers = answers;
-                decided = omega (arith, size, decided);
-                within = omega (arith, size, path_within);
-                short = omega (arith, size, path_short side rules (trie.path stands.at) this.front);
-              };
+              walks = grind (arith, answers, decided, path_within, path_short, this);
               no_zero = λ plain. All-same (λ byte. byte ≢ 0) _ (trie.path stands.at)
                   (ap (λ n. take n name) size ∙ front_is)
                   (path_no_zero side rules (trie.path stands.at) this.front plain);

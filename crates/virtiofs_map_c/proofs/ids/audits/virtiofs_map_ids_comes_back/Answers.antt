@@ -2,18 +2,17 @@ use Rattle.std.proofs.Common.{rules}
 use Rattle.virtiofs_id_audit.specs.IdAudit.{IsAstray, ComesBack}
 use Rattle.virtiofs_map_c.specs.IdsFound.{IsAstrayTold}
 use Rattle.virtiofs_map_c.proofs.ArraysLemmas.{IsAccepted-no_fault, array_complete, array_faulty}
-use Rattle.virtiofs_map_c.proofs.IdsFoundLemmas.{audit_told, audit_yes}
+use Rattle.virtiofs_map_c.proofs.IdsFoundLemmas.{tells_audit, tells_yes, of_array}
 use Rattle.virtiofs_map_c.proofs.ids.audits.virtiofs_map_ids_comes_back.Goals as goal
 
 pub returns-in-Ok-clause-answer : goal.returns-in-Ok-clause-answer
 returns-in-Ok-clause-answer c = λ list are _.
-    audit_told IsAstray IsAstrayTold c.args.specs.now c.in-Ok.least _ _ _ c.write.ensures
-    ComesBack c.in-Ok.ensures.decided list are
+    tells_audit (IsAstray list) (IsAstrayTold list) c.in-Ok.least _ _ _ c.write.ensures
+    (of_array _ _ c.in-Ok.ensures.decided list are).0
 
 pub returns-in-Ok-clause-comes_back : goal.returns-in-Ok-clause-comes_back
 returns-in-Ok-clause-comes_back c = λ list are _.
-    audit_yes IsAstray IsAstrayTold c.args.specs.now c.in-Ok.least _ _ _ c.write.ensures
-    ComesBack c.in-Ok.ensures.decided list are
+    tells_yes (ComesBack list) c.in-Ok.least _ _ _ c.write.ensures (of_array _ _ c.in-Ok.ensures.decided list are).1
 
 pub returns-in-Ok-clause-faulty : goal.returns-in-Ok-clause-faulty
 returns-in-Ok-clause-faulty c = search (rules, IsAccepted-no_fault)

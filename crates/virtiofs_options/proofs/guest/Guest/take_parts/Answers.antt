@@ -1,7 +1,6 @@
-use Rattle.std.proofs.Common.{subst}
+use Rattle.virtiofs_options.proofs.GuestLemmas.{text-last, flag-last, Adds-more}
+use Rattle.std.proofs.Common.{arith}
 use Rattle.std.proofs.lemmas.List.{take_all}
-use Rattle.virtiofs_options.specs.GuestOptions.{Adds}
-use Rattle.virtiofs_options.proofs.GuestLemmas.{Adds-more, TakesIn-end}
 use Rattle.virtiofs_options.proofs.guest.Guest.take_parts.Goals as goal
 
 pub loop-part-preserved : goal.loop-part-preserved
@@ -10,20 +9,4 @@ loop-part-preserved g c =
     c.loop-part.invariant c.in_ok-take_part.ensures
 
 pub returns-clause-takes : goal.returns-clause-takes
-returns-clause-takes g c =
-    let then = c.take_older.ensures in
-    TakesIn-end c.args.options _ c.loop-part.self _ c.read_older.result _
-    (subst (Adds _ c.loop-part.self) (take_all c.loop-part.part-index c.args.parts.now c.loop-part-test.false) c.loop-part.invariant)
-    c.read_older.ensures.rules c.read_older.ensures.lists c.read_older.ensures.xattr
-    c.read_older.ensures.label c.read_older.ensures.sandbox (record {
-      rules = then.rules;
-      lists = then.lists;
-      users = then.users;
-      groups = then.groups;
-      user_ranges = then.user_ranges;
-      group_ranges = then.group_ranges;
-      flag = then.flag;
-      xattr = then.xattr;
-      label = then.label;
-      sandbox = then.sandbox;
-    })
+returns-clause-takes g c = grind (arith, text-last, flag-last, take_all)

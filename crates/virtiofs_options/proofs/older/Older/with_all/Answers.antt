@@ -1,15 +1,12 @@
-use Rattle.std.proofs.Common.{◌∷◌, [], subst, sym, lit<}
+use Rattle.std.proofs.Common.{rules, lit<}
 use Rattle.std.proofs.lemmas.Iterator.Consumers.{YieldsList-at, YieldsList-end}
 use Rattle.std.proofs.lemmas.Iterator.Splits.{YieldsList-from_str_split}
 use Rattle.std.proofs.lemmas.List.{map-append}
-use Rattle.virtiofs_options.specs.GuestOptions.{AddsOlder}
 use Rattle.virtiofs_options.proofs.OlderLemmas.{AddsOlder-then}
 use Rattle.virtiofs_options.proofs.older.Older.with_all.Goals as goal
 
 pub loop-text-preserved : goal.loop-text-preserved
-loop-text-preserved c =
-    subst (AddsOlder c.args.options c.args.self c.with-older.result) (sym (map-append _ c.loop-text.yielded (c.in-Some.text ∷ [])))
-    (AddsOlder-then c.args.options _ c.loop-text.older _ _ (c.in-Some.text.now ∷ []) c.loop-text.invariant c.with-older.ensures)
+loop-text-preserved c = search (rules, map-append, AddsOlder-then)
 
 pub returns : goal.returns
 returns c =

@@ -3,7 +3,7 @@ use Rattle.std.proofs.Common.{◌≡◌, take}
 use Rattle.std.specs.List.{AllZip}
 use Rattle.virtiofs_map.specs.Specifications.{texts_of}
 use Rattle.virtiofs_findings.specs.Guests.{SaysRange}
-use Rattle.virtiofs_findings.proofs.setup.read_ranges.Given as goal
+use Rattle.virtiofs_findings.proofs.setup.say_ranges.Given as goal
 
 abbrev pub invariant-loop-place : goal.invariant-loop-place
 invariant-loop-place g l =

@@ -1,6 +1,0 @@
-use Rattle.virtiofs_map_c.specs.Front.{Goes}
-use Rattle.virtiofs_map_c.proofs.sentences.escaped.put_text.Given as goal
-
--- what was written so far is one text
-abbrev pub invariant-loop-character : goal.invariant-loop-character
-invariant-loop-character l = Goes l.fn.len l.fn.out l.len l.out

@@ -1,6 +1,0 @@
-use Rattle.std.proofs.Common.{sym}
-use Rattle.std.proofs.lemmas.Str.{utf8_valid_len-IsUtf8}
-use Rattle.virtiofs_map_c.proofs.sentences.front.text_len.Goals as goal
-
-pub returns-in-Ok : goal.returns-in-Ok
-returns-in-Ok c = sym (utf8_valid_len-IsUtf8 _ c.in-Ok.ensures.cases.1)
