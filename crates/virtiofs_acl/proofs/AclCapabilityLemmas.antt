@@ -1,5 +1,5 @@
 -- Capabilities: their first fault is one, one that goes across has none, and under `map` specifications it comes back.
-use Rattle.std.proofs.Common.{◌≡◌, ◌≢◌, ◌⊎◌, inl, inr, ℕ, ◌<◌, ◌≤◌, List, length, get_or, Some, refl, sym, ap, ◌∙◌}
+use Rattle.std.proofs.Common.{◌≡◌, ◌≢◌, ◌⊎◌, inl, inr, ℕ, ◌<◌, ◌≤◌, List, length, get_or, Some, refl, ◌∙◌}
 use Rattle.std.proofs.Common.{arith, rules}
 use Rattle.std.proofs.lemmas.Bool.{cases_lt}
 use Rattle.std.proofs.lemmas.List.{ext_get_or, get_or_past}
@@ -29,29 +29,17 @@ HasRootFault-any users direction value Forbidden fault = absurd fault
 HasRootFault-any users direction value RootMoves fault = absurd fault
 
 pub stays-any : (value : List ℕ) (error : CapabilityError) → IsFaultOfAny value error → error ≢ RootMoves
-stays-any value TooShort fault moves = absurd (cc)
-stays-any value (Revision revision) fault moves = absurd (cc)
-stays-any value Length fault moves = absurd (cc)
-stays-any value NoId fault moves = absurd (cc)
-stays-any value Forbidden fault moves = fault
-stays-any value RootMoves fault moves = fault
+stays-any value x1 fault moves = search rules
 
 -- one that no revision 3 mends is a fault in place too
 pub HasCapabilityFault-root : (users : List IdMap) (direction : Direction) (value : List ℕ) (error : CapabilityError)
     → HasRootFault users direction value error → HasCapabilityFault users direction value error
-HasCapabilityFault-root users direction value TooShort fault = fault
-HasCapabilityFault-root users direction value (Revision revision) fault = fault
-HasCapabilityFault-root users direction value Length fault = fault
-HasCapabilityFault-root users direction value NoId fault = fault
-HasCapabilityFault-root users direction value Forbidden fault = fault
-HasCapabilityFault-root users direction value RootMoves fault = absurd fault
+HasCapabilityFault-root users direction value x3 fault = search rules
 
 -- ---- values without a field for root
 
 HasSize-revision : (revision size : ℕ) → HasSize revision size → IsRevision revision
-HasSize-revision revision size (inl one) = inl one.0
-HasSize-revision revision size (inr (inl two)) = inr (inl two.0)
-HasSize-revision revision size (inr (inr three)) = inr (inr three.0)
+HasSize-revision revision size x2 = search rules
 
 -- past the end of a list is 0
 pub root_of-none : (value : List ℕ) → length value ≤ 20 → root_of value ≡ 0
@@ -59,26 +47,18 @@ root_of-none value ends = search (rules, get_or_past)
 
 -- revisions 1 and 2 have no field
 no_field : (revision size : ℕ) → HasSize revision size → revision ≢ 3 → size ≤ 20
-no_field revision size (inl one) other = omega arith
-no_field revision size (inr (inl two)) other = omega arith
-no_field revision size (inr (inr three)) other = absurd (other three.0)
+no_field revision size x2 other = omega arith
 
 -- revision 3 has one
 pub with_field : (revision size : ℕ) → HasSize revision size → size ≡ 24 → revision ≡ 3
-with_field revision size (inl one) whole = absurd (omega (arith, one.1))
-with_field revision size (inr (inl two)) whole = absurd (omega (arith, two.1))
-with_field revision size (inr (inr three)) whole = three.0
+with_field revision size x2 whole = omega arith
 
 pub without_field : (revision size : ℕ) → HasSize revision size → size ≢ 24 → size ≤ 20
-without_field revision size (inl one) other = omega arith
-without_field revision size (inr (inl two)) other = omega arith
-without_field revision size (inr (inr three)) other = absurd (other three.1)
+without_field revision size x2 other = omega arith
 
 -- a value that is not as long is of another revision
 pub other_revision : (revision size : ℕ) → HasSize revision size → size ≢ 24 → revision ≢ 3
-other_revision revision size (inl one) other three = omega (arith, one.0)
-other_revision revision size (inr (inl two)) other three = omega (arith, two.0)
-other_revision revision size (inr (inr three)) other is = other three.1
+other_revision revision size x2 other three = omega arith
 
 pub root_of-zero : (value : List ℕ) → IsSized value → revision_of value ≢ 3 → root_of value ≡ 0
 root_of-zero value sized other = root_of-none value (no_field _ _ sized.sized other)
@@ -117,66 +97,27 @@ to_id users direction n root accepted becomes is_id none = search (rules, Become
 pub HasCapabilityFault-one : (users : List IdMap) (direction : Direction) (value : List ℕ)
     (error other : CapabilityError) → Accepted users → HasCapabilityFault users direction value error
     → HasCapabilityFault users direction value other → error ≡ other
-HasCapabilityFault-one users direction value TooShort TooShort accepted first second = refl
-HasCapabilityFault-one users direction value TooShort (Revision found) accepted first second =
-    absurd (omega (arith, second.0))
-HasCapabilityFault-one users direction value TooShort Length accepted first second = absurd (omega (arith, second.0))
-HasCapabilityFault-one users direction value TooShort NoId accepted first second = absurd (omega (arith, second.0.word))
-HasCapabilityFault-one users direction value TooShort Forbidden accepted first second =
-    absurd (omega (arith, second.0.sized.word))
-HasCapabilityFault-one users direction value TooShort RootMoves accepted first second =
-    absurd (omega (arith, second.0.sized.word))
-HasCapabilityFault-one users direction value (Revision revision) TooShort accepted first second =
-    absurd (omega (arith, first.0))
-HasCapabilityFault-one users direction value (Revision revision) (Revision found) accepted first second =
-    ap (λ (n : ℕ). Revision n) (first.1 ∙ sym second.1)
-HasCapabilityFault-one users direction value (Revision revision) Length accepted first second =
-    absurd (first.2 (rw first.1 second.1))
-HasCapabilityFault-one users direction value (Revision revision) NoId accepted first second =
-    absurd (first.2 (rw first.1 (HasSize-revision _ _ second.0.sized)))
-HasCapabilityFault-one users direction value (Revision revision) Forbidden accepted first second =
-    absurd (first.2 (rw first.1 (HasSize-revision _ _ second.0.sized.sized)))
-HasCapabilityFault-one users direction value (Revision revision) RootMoves accepted first second =
-    absurd (first.2 (rw first.1 (HasSize-revision _ _ second.0.sized.sized)))
-HasCapabilityFault-one users direction value Length TooShort accepted first second = absurd (omega (arith, first.0))
-HasCapabilityFault-one users direction value Length (Revision found) accepted first second =
-    absurd (second.2 (rw second.1 first.1))
-HasCapabilityFault-one users direction value Length Length accepted first second = refl
-HasCapabilityFault-one users direction value Length NoId accepted first second = absurd (first.2 second.0.sized)
-HasCapabilityFault-one users direction value Length Forbidden accepted first second =
-    absurd (first.2 second.0.sized.sized)
-HasCapabilityFault-one users direction value Length RootMoves accepted first second =
-    absurd (first.2 second.0.sized.sized)
+HasCapabilityFault-one users direction value TooShort other accepted first second = search rules
+HasCapabilityFault-one users direction value (Revision revision) other accepted first second =
+    search (rules, HasSize-revision)
+HasCapabilityFault-one users direction value Length other accepted first second = search (rules, HasSize-revision)
 HasCapabilityFault-one users direction value NoId TooShort accepted first second = absurd (omega (arith, first.0.word))
-HasCapabilityFault-one users direction value NoId (Revision found) accepted first second =
-    absurd (second.2 (rw second.1 (HasSize-revision _ _ first.0.sized)))
+HasCapabilityFault-one _ _ _ NoId (Revision found) _ first second = search (rules, HasSize-revision)
 HasCapabilityFault-one users direction value NoId Length accepted first second = absurd (second.2 first.0.sized)
 HasCapabilityFault-one users direction value NoId NoId accepted first second = refl
-HasCapabilityFault-one users direction value NoId Forbidden accepted first second =
-    absurd (no_root_forbidden users direction value accepted first.1 second)
-HasCapabilityFault-one users direction value NoId RootMoves accepted first second =
-    absurd (no_root_moves users direction value accepted first.1 second)
-HasCapabilityFault-one users direction value Forbidden TooShort accepted first second =
-    absurd (omega (arith, first.0.sized.word))
-HasCapabilityFault-one users direction value Forbidden (Revision found) accepted first second =
-    absurd (second.2 (rw second.1 (HasSize-revision _ _ first.0.sized.sized)))
-HasCapabilityFault-one users direction value Forbidden Length accepted first second =
-    absurd (second.2 first.0.sized.sized)
-HasCapabilityFault-one users direction value Forbidden NoId accepted first second =
-    absurd (no_root_forbidden users direction value accepted second.1 first)
+HasCapabilityFault-one users direction value NoId Forbidden accepted first second = search (rules, no_root_forbidden)
+HasCapabilityFault-one _ _ _ NoId RootMoves accepted first second = absurd (no_root_moves _ _ _ accepted first.1 second)
+HasCapabilityFault-one _ _ _ Forbidden TooShort _ first second = absurd (omega (arith, first.0.sized.word))
+HasCapabilityFault-one _ _ _ Forbidden (Revision found) _ first second = search (rules, HasSize-revision)
+HasCapabilityFault-one _ _ _ Forbidden Length _ first second = absurd (second.2 first.0.sized.sized)
+HasCapabilityFault-one users direction value Forbidden NoId accepted first second = search (rules, no_root_forbidden)
 HasCapabilityFault-one users direction value Forbidden Forbidden accepted first second = refl
-HasCapabilityFault-one users direction value Forbidden RootMoves accepted first second =
-    absurd (forbidden_moves users direction value accepted first second)
-HasCapabilityFault-one users direction value RootMoves TooShort accepted first second =
-    absurd (omega (arith, first.0.sized.word))
-HasCapabilityFault-one users direction value RootMoves (Revision found) accepted first second =
-    absurd (second.2 (rw second.1 (HasSize-revision _ _ first.0.sized.sized)))
-HasCapabilityFault-one users direction value RootMoves Length accepted first second =
-    absurd (second.2 first.0.sized.sized)
-HasCapabilityFault-one users direction value RootMoves NoId accepted first second =
-    absurd (no_root_moves users direction value accepted second.1 first)
-HasCapabilityFault-one users direction value RootMoves Forbidden accepted first second =
-    absurd (forbidden_moves users direction value accepted second first)
+HasCapabilityFault-one users direction value Forbidden RootMoves accepted first second = search (rules, forbidden_moves)
+HasCapabilityFault-one _ _ _ RootMoves TooShort _ first second = absurd (omega (arith, first.0.sized.word))
+HasCapabilityFault-one _ _ _ RootMoves (Revision found) _ first second = search (rules, HasSize-revision)
+HasCapabilityFault-one _ _ _ RootMoves Length _ first second = absurd (second.2 first.0.sized.sized)
+HasCapabilityFault-one _ _ _ RootMoves NoId accepted first second = absurd (no_root_moves _ _ _ accepted second.1 first)
+HasCapabilityFault-one users direction value RootMoves Forbidden accepted first second = search (rules, forbidden_moves)
 HasCapabilityFault-one users direction value RootMoves RootMoves accepted first second = refl
 
 pub HasRootFault-one : (users : List IdMap) (direction : Direction) (value : List ℕ) (error other : CapabilityError)
@@ -188,8 +129,7 @@ HasRootFault-one users direction value error other accepted first second =
 pub HasRoot-no_fault : (users : List IdMap) (direction : Direction) (value : List ℕ) (error : CapabilityError)
     → Accepted users → HasRoot users direction value → ¬ HasRootFault users direction value error
 HasRoot-no_fault users direction value TooShort accepted has fault = omega (arith, has.capability.sized.word)
-HasRoot-no_fault users direction value (Revision revision) accepted has fault =
-    fault.2 (rw fault.1 (HasSize-revision _ _ has.capability.sized.sized))
+HasRoot-no_fault users direction value (Revision revision) accepted has fault = search (rules, HasSize-revision)
 HasRoot-no_fault users direction value Length accepted has fault = fault.2 has.capability.sized.sized
 HasRoot-no_fault users direction value NoId accepted has fault = search rules
 HasRoot-no_fault users direction value Forbidden accepted has fault =
@@ -204,18 +144,13 @@ stays_moves users direction value accepted goes fault =
 
 pub RootGoesAcross-no_fault : (users : List IdMap) (direction : Direction) (value : List ℕ) (error : CapabilityError)
     → Accepted users → RootGoesAcross users direction value → ¬ HasCapabilityFault users direction value error
-RootGoesAcross-no_fault users direction value TooShort accepted goes fault =
-    HasRoot-no_fault users direction value TooShort accepted goes.has_root fault
-RootGoesAcross-no_fault users direction value (Revision revision) accepted goes fault =
-    HasRoot-no_fault users direction value (Revision revision) accepted goes.has_root fault
-RootGoesAcross-no_fault users direction value Length accepted goes fault =
-    HasRoot-no_fault users direction value Length accepted goes.has_root fault
-RootGoesAcross-no_fault users direction value NoId accepted goes fault =
-    HasRoot-no_fault users direction value NoId accepted goes.has_root fault
+RootGoesAcross-no_fault users direction value TooShort accepted goes fault = search (rules, HasRoot-no_fault)
+RootGoesAcross-no_fault users direction value (Revision revision) accepted goes fault = search (rules, HasRoot-no_fault)
+RootGoesAcross-no_fault _ _ _ Length accepted goes fault = HasRoot-no_fault _ _ _ Length accepted goes.has_root fault
+RootGoesAcross-no_fault _ _ _ NoId accepted goes fault = HasRoot-no_fault _ _ _ NoId accepted goes.has_root fault
 RootGoesAcross-no_fault users direction value Forbidden accepted goes fault =
     HasRoot-no_fault users direction value Forbidden accepted goes.has_root fault
-RootGoesAcross-no_fault users direction value RootMoves accepted goes fault =
-    stays_moves users direction value accepted goes fault
+RootGoesAcross-no_fault _ _ _ RootMoves accepted goes fault = stays_moves _ _ _ accepted goes fault
 
 -- ---- and back
 

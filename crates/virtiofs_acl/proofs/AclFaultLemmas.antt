@@ -1,5 +1,5 @@
 -- The first fault of a list: it is one, and a list that goes across has none.
-use Rattle.std.proofs.Common.{◌≡◌, ◌⊎◌, inl, inr, ℕ, ◌≤◌, List, refl, sym, ap, ◌∙◌, arith, rules}
+use Rattle.std.proofs.Common.{◌≡◌, ◌⊎◌, inl, inr, ℕ, ◌≤◌, List, refl, ◌∙◌, arith, rules}
 use Rattle.std.proofs.lemmas.Bool.{cases_order}
 use Rattle.virtiofs_acl.specs.Acl.{entry_count, tag_of, id_of, IsTag, HasId, IsWhole, IsSound, AllSound, GoesAcross}
 use Rattle.virtiofs_acl.specs.Acl.{IsEntryFault, IsFirstUnsound, IsFirstMerged, HasAclFault}
@@ -28,35 +28,20 @@ pub HasAclFault-unsound_below : (users groups : List IdMap) (direction : Directi
     (error : AclError) → IsWhole value → entry_count value ≤ room
     → IsUnsoundBelow users groups direction value (entry_count value) error
     → HasAclFault users groups direction room value error
-HasAclFault-unsound_below users groups direction room value TooShort whole fits wrong = absurd wrong
-HasAclFault-unsound_below users groups direction room value (Version version) whole fits wrong = absurd wrong
-HasAclFault-unsound_below users groups direction room value Length whole fits wrong = absurd wrong
-HasAclFault-unsound_below users groups direction room value (Room needed) whole fits wrong = absurd wrong
-HasAclFault-unsound_below users groups direction room value (Entry k UnknownTag) whole fits wrong =
-    record { whole = whole; fits = fits; is_entry = wrong.0; before = wrong.1; wrong = wrong.2 }
-HasAclFault-unsound_below users groups direction room value (Entry k Permission) whole fits wrong =
-    record { whole = whole; fits = fits; is_entry = wrong.0; before = wrong.1; wrong = wrong.2 }
-HasAclFault-unsound_below users groups direction room value (Entry k NoId) whole fits wrong =
-    record { whole = whole; fits = fits; is_entry = wrong.0; before = wrong.1; wrong = wrong.2 }
-HasAclFault-unsound_below users groups direction room value (Entry k Forbidden) whole fits wrong =
-    record { whole = whole; fits = fits; is_entry = wrong.0; before = wrong.1; wrong = wrong.2 }
-HasAclFault-unsound_below users groups direction room value (Entry k Merges) whole fits wrong = absurd wrong.2
+HasAclFault-unsound_below users groups direction room value x5 whole fits wrong = search rules
 
 -- ---- of an entry by itself
 
 -- an entry with an id has a tag
 HasId-tag : (tag : ℕ) → HasId tag → IsTag tag
-HasId-tag tag (inl user) = inr (inl user)
-HasId-tag tag (inr group) = inr (inr (inr (inl group)))
+HasId-tag tag x1 = search rules
 
 -- a sound entry has no fault
 IsSound-no_fault : (users groups : List IdMap) (direction : Direction) (value : List ℕ) (k : ℕ) (fault : EntryFault)
     → Accepted users → Accepted groups → IsSound users groups direction value k
     → ¬ IsEntryFault users groups direction value k fault
-IsSound-no_fault users groups direction value k UnknownTag users_accepted groups_accepted sound wrong =
-    wrong sound.known
-IsSound-no_fault users groups direction value k Permission users_accepted groups_accepted sound wrong =
-    omega (arith, wrong.1, sound.permitted)
+IsSound-no_fault _ _ _ _ _ UnknownTag _ _ sound wrong = wrong sound.known
+IsSound-no_fault _ _ _ _ _ Permission _ _ sound wrong = omega (arith, wrong.1, sound.permitted)
 IsSound-no_fault users groups direction value k NoId users_accepted groups_accepted sound wrong = search rules
 IsSound-no_fault users groups direction value k Forbidden users_accepted groups_accepted sound wrong =
     Becomes-forbidden _ direction (id_of value k) (sound.goes wrong.0).0
@@ -79,30 +64,19 @@ IsEntryFault-one : (users groups : List IdMap) (direction : Direction) (value : 
     (fault other : EntryFault) → Accepted users → Accepted groups
     → IsEntryFault users groups direction value k fault
     → IsEntryFault users groups direction value k other → fault ≡ other
-IsEntryFault-one users groups direction value k UnknownTag UnknownTag ua ga first second = refl
-IsEntryFault-one users groups direction value k UnknownTag Permission ua ga first second = absurd (first second.0)
-IsEntryFault-one users groups direction value k UnknownTag NoId ua ga first second = absurd (first (HasId-tag _ second.0))
-IsEntryFault-one users groups direction value k UnknownTag Forbidden ua ga first second =
-    absurd (first (HasId-tag _ second.0))
-IsEntryFault-one users groups direction value k Permission UnknownTag ua ga first second = absurd (second first.0)
-IsEntryFault-one users groups direction value k Permission Permission ua ga first second = refl
-IsEntryFault-one users groups direction value k Permission NoId ua ga first second = absurd (omega (arith, first.1, second.1))
-IsEntryFault-one users groups direction value k Permission Forbidden ua ga first second =
-    absurd (omega (arith, first.1, second.1))
+IsEntryFault-one users groups direction value k UnknownTag other ua ga first second = search (rules, HasId-tag)
+IsEntryFault-one users groups direction value k Permission other ua ga first second = search rules
 IsEntryFault-one users groups direction value k NoId UnknownTag ua ga first second = absurd (second (HasId-tag _ first.0))
 IsEntryFault-one users groups direction value k NoId Permission ua ga first second = absurd (omega (arith, first.1, second.1))
 IsEntryFault-one users groups direction value k NoId NoId ua ga first second = refl
-IsEntryFault-one users groups direction value k NoId Forbidden ua ga first second =
-    absurd (no_id_forbidden users groups direction value k ua ga first second)
-IsEntryFault-one users groups direction value k Forbidden UnknownTag ua ga first second =
-    absurd (second (HasId-tag _ first.0))
-IsEntryFault-one users groups direction value k Forbidden Permission ua ga first second =
-    absurd (omega (arith, first.1, second.1))
-IsEntryFault-one users groups direction value k Forbidden NoId ua ga first second =
-    absurd (no_id_forbidden users groups direction value k ua ga second first)
+IsEntryFault-one _ _ _ _ k NoId Forbidden ua ga first second = absurd (no_id_forbidden _ _ _ _ k ua ga first second)
+IsEntryFault-one users groups direction value k NoId Merges ua ga first second = absurd second
+IsEntryFault-one _ _ _ _ _ Forbidden UnknownTag _ _ first second = absurd (second (HasId-tag _ first.0))
+IsEntryFault-one _ _ _ _ _ Forbidden Permission _ _ first second = absurd (omega (arith, first.1, second.1))
+IsEntryFault-one _ _ _ _ k Forbidden NoId ua ga first second = absurd (no_id_forbidden _ _ _ _ k ua ga second first)
 IsEntryFault-one users groups direction value k Forbidden Forbidden ua ga first second = refl
+IsEntryFault-one users groups direction value k Forbidden Merges ua ga first second = absurd second
 IsEntryFault-one users groups direction value k Merges other ua ga first second = absurd first
-IsEntryFault-one users groups direction value k fault Merges ua ga first second = absurd second
 
 -- ---- of a list
 
@@ -113,23 +87,14 @@ pub record IsEntryReached (room : ℕ) (value : List ℕ) : Type 0 where
 
 HasAclFault-reached : (users groups : List IdMap) (direction : Direction) (room : ℕ) (value : List ℕ) (k : ℕ)
     (fault : EntryFault) → HasAclFault users groups direction room value (Entry k fault) → IsEntryReached room value
-HasAclFault-reached users groups direction room value k UnknownTag has = record { whole = has.whole; fits = has.fits }
-HasAclFault-reached users groups direction room value k Permission has = record { whole = has.whole; fits = has.fits }
-HasAclFault-reached users groups direction room value k NoId has = record { whole = has.whole; fits = has.fits }
-HasAclFault-reached users groups direction room value k Forbidden has = record { whole = has.whole; fits = has.fits }
-HasAclFault-reached users groups direction room value k Merges has =
-    record { whole = has.all_sound.whole; fits = has.all_sound.fits }
+HasAclFault-reached users groups direction room value k x6 has = search rules
 
 -- the entry that is at fault by itself
 HasAclFault-unsound : (users groups : List IdMap) (direction : Direction) (room : ℕ) (value : List ℕ) (k : ℕ)
     (fault : EntryFault) → HasAclFault users groups direction room value (Entry k fault)
     → IsFirstUnsound users groups direction room value k fault
     ⊎ ((fault ≡ Merges) × IsFirstMerged users groups direction room value k)
-HasAclFault-unsound users groups direction room value k UnknownTag has = inl has
-HasAclFault-unsound users groups direction room value k Permission has = inl has
-HasAclFault-unsound users groups direction room value k NoId has = inl has
-HasAclFault-unsound users groups direction room value k Forbidden has = inl has
-HasAclFault-unsound users groups direction room value k Merges has = inr (refl, has)
+HasAclFault-unsound users groups direction room value k x6 has = search rules
 
 -- no entry is both at fault by itself and sound
 unsound_sound : (users groups : List IdMap) (direction : Direction) (room : ℕ) (value : List ℕ) (k : ℕ)
@@ -141,14 +106,10 @@ unsound_sound users groups direction room value k fault users_accepted groups_ac
 pub GoesAcross-no_fault : (users groups : List IdMap) (direction : Direction) (room : ℕ) (value : List ℕ)
     (error : AclError) → Accepted users → Accepted groups → GoesAcross users groups direction room value
     → ¬ HasAclFault users groups direction room value error
-GoesAcross-no_fault users groups direction room value TooShort users_accepted groups_accepted goes fault =
-    omega (arith, goes.all_sound.whole.header)
-GoesAcross-no_fault users groups direction room value (Version version) users_accepted groups_accepted goes fault =
-    fault.2 (fault.1 ∙ goes.all_sound.whole.version)
-GoesAcross-no_fault users groups direction room value Length users_accepted groups_accepted goes fault =
-    fault.2 goes.all_sound.whole.whole
-GoesAcross-no_fault users groups direction room value (Room needed) users_accepted groups_accepted goes fault =
-    omega (arith, fault.1, fault.2, goes.all_sound.fits)
+GoesAcross-no_fault _ _ _ _ _ TooShort _ _ goes fault = omega (arith, goes.all_sound.whole.header)
+GoesAcross-no_fault _ _ _ _ _ (Version version) _ _ goes fault = fault.2 (fault.1 ∙ goes.all_sound.whole.version)
+GoesAcross-no_fault _ _ _ _ _ Length _ _ goes fault = fault.2 goes.all_sound.whole.whole
+GoesAcross-no_fault _ _ _ _ _ (Room needed) _ _ goes fault = omega (arith, fault.1, fault.2, goes.all_sound.fits)
 GoesAcross-no_fault users groups direction room value (Entry k wrong) users_accepted groups_accepted goes fault =
     elim (HasAclFault-unsound users groups direction room value k wrong fault) [
       | inl first ↦ unsound_sound users groups direction room value k wrong users_accepted groups_accepted first
@@ -203,51 +164,5 @@ entry_one users groups direction room value j k fault other users_accepted group
 pub HasAclFault-one : (users groups : List IdMap) (direction : Direction) (room : ℕ) (value : List ℕ)
     (error other : AclError) → Accepted users → Accepted groups → HasAclFault users groups direction room value error
     → HasAclFault users groups direction room value other → error ≡ other
-HasAclFault-one users groups direction room value TooShort TooShort ua ga first second = refl
-HasAclFault-one users groups direction room value TooShort (Version version) ua ga first second =
-    absurd (omega (arith, second.0))
-HasAclFault-one users groups direction room value TooShort Length ua ga first second = absurd (omega (arith, second.0))
-HasAclFault-one users groups direction room value TooShort (Room needed) ua ga first second =
-    absurd (omega (arith, second.0.header))
-HasAclFault-one users groups direction room value TooShort (Entry k fault) ua ga first second =
-    absurd (omega (arith, (HasAclFault-reached users groups direction room value k fault second).whole.header))
-HasAclFault-one users groups direction room value (Version version) TooShort ua ga first second =
-    absurd (omega (arith, first.0))
-HasAclFault-one users groups direction room value (Version version) (Version found) ua ga first second =
-    ap (λ (n : ℕ). Version n) (first.1 ∙ sym second.1)
-HasAclFault-one users groups direction room value (Version version) Length ua ga first second =
-    absurd (first.2 (first.1 ∙ second.1))
-HasAclFault-one users groups direction room value (Version version) (Room needed) ua ga first second =
-    absurd (first.2 (first.1 ∙ second.0.version))
-HasAclFault-one users groups direction room value (Version version) (Entry k fault) ua ga first second =
-    absurd (first.2 (first.1 ∙ (HasAclFault-reached users groups direction room value k fault second).whole.version))
-HasAclFault-one users groups direction room value Length TooShort ua ga first second = absurd (omega (arith, first.0))
-HasAclFault-one users groups direction room value Length (Version version) ua ga first second =
-    absurd (second.2 (second.1 ∙ first.1))
-HasAclFault-one users groups direction room value Length Length ua ga first second = refl
-HasAclFault-one users groups direction room value Length (Room needed) ua ga first second =
-    absurd (first.2 second.0.whole)
-HasAclFault-one users groups direction room value Length (Entry k fault) ua ga first second =
-    absurd (first.2 (HasAclFault-reached users groups direction room value k fault second).whole.whole)
-HasAclFault-one users groups direction room value (Room needed) TooShort ua ga first second =
-    absurd (omega (arith, first.0.header))
-HasAclFault-one users groups direction room value (Room needed) (Version version) ua ga first second =
-    absurd (second.2 (second.1 ∙ first.0.version))
-HasAclFault-one users groups direction room value (Room needed) Length ua ga first second =
-    absurd (second.2 first.0.whole)
-HasAclFault-one users groups direction room value (Room needed) (Room other) ua ga first second =
-    ap (λ (n : ℕ). Room n) (first.1 ∙ sym second.1)
-HasAclFault-one users groups direction room value (Room needed) (Entry k fault) ua ga first second =
-    absurd (omega
-    (arith, first.1, first.2, (HasAclFault-reached users groups direction room value k fault second).fits))
-HasAclFault-one users groups direction room value (Entry k fault) TooShort ua ga first second =
-    absurd (omega (arith, (HasAclFault-reached users groups direction room value k fault first).whole.header))
-HasAclFault-one users groups direction room value (Entry k fault) (Version version) ua ga first second =
-    absurd (second.2 (second.1 ∙ (HasAclFault-reached users groups direction room value k fault first).whole.version))
-HasAclFault-one users groups direction room value (Entry k fault) Length ua ga first second =
-    absurd (second.2 (HasAclFault-reached users groups direction room value k fault first).whole.whole)
-HasAclFault-one users groups direction room value (Entry k fault) (Room needed) ua ga first second =
-    absurd (omega
-    (arith, second.1, second.2, (HasAclFault-reached users groups direction room value k fault first).fits))
-HasAclFault-one users groups direction room value (Entry j fault) (Entry k other) ua ga first second =
-    entry_one users groups direction room value j k fault other ua ga first second
+HasAclFault-one users groups direction room value x5 x6 ua ga first second =
+    search (rules, HasAclFault-reached, entry_one)

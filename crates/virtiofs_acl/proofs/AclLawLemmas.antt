@@ -64,29 +64,25 @@ sound_back users groups direction old new k users_accepted groups_accepted trans
   known = rw tag sound.known;
   permitted = rw (IsTranslated-permissions users groups direction old new k translated) sound.permitted;
   is_id = λ has_id greatest. sound.is_id (rw tag at has_id) (one_value (rw tag at has_id) greatest);
-  goes = λ has_id. (
-    id_of old k,
-    rw tag (leads_back users groups direction old new k users_accepted groups_accepted translated mapped below
-        (rw tag at has_id)),
-  );
+  goes = λ has_id. (id_of old k, rw tag (back (rw tag at has_id)));
   to_id = λ has_id becomes.
-      let specs = specs_for users groups (tag_of old k) in
       sound.is_id (rw tag at has_id)
-      (Becomes-one specs (opposite direction) (id_of new k) (id_of old k) 4294967295
-      (Accepted-for users groups (tag_of old k) users_accepted groups_accepted)
-      (leads_back users groups direction old new k users_accepted groups_accepted translated mapped below
-      (rw tag at has_id)) (rw tag at becomes));
+      (Becomes-one _ _ (id_of new k) _ _ accepted (back (rw tag at has_id)) (rw tag at becomes));
 } where
   tag : tag_of new k ≡ tag_of old k
   tag = IsTranslated-tag users groups direction old new k translated
 
+  accepted : Accepted (specs_for users groups (tag_of old k))
+  accepted = Accepted-for users groups _ users_accepted groups_accepted
+
+  back : HasId (tag_of old k)
+      → Becomes (specs_for users groups (tag_of old k)) (opposite direction) (id_of new k) (Some (id_of old k))
+  back = leads_back users groups direction old new k users_accepted groups_accepted translated mapped below
+
   one_value : HasId (tag_of old k) → id_of new k ≡ 4294967295 → id_of old k ≡ 4294967295
   one_value has_id greatest =
-      let specs = specs_for users groups (tag_of old k) in
-      let accepted = Accepted-for users groups (tag_of old k) users_accepted groups_accepted in
-      Becomes-one specs (opposite direction) 4294967295 (id_of old k) 4294967295 accepted
-      (rw greatest at (leads_back users groups direction old new k users_accepted groups_accepted translated mapped
-      below has_id)) (KeepsGreatest-accepted specs accepted (opposite direction))
+      Becomes-one _ _ 4294967295 _ _ accepted (rw greatest at (back has_id))
+      (KeepsGreatest-accepted _ accepted (opposite direction))
 
 apart_back : (users groups : List IdMap) (direction : Direction) (old new : List ℕ) (k : ℕ) → Accepted users
     → Accepted groups → IsTranslated users groups direction old new → AllMapped users groups direction old
@@ -102,10 +98,9 @@ apart_back users groups direction old new k users_accepted groups_accepted trans
     let specs = specs_for users groups (tag_of old k) in
     let accepted : Accepted specs = Accepted-for users groups (tag_of old k) users_accepted groups_accepted in
     let back_j : Becomes specs (opposite direction) (id_of new j) (Some (id_of old j)) =
-    rw tags at (leads_back users groups direction old new j users_accepted groups_accepted translated mapped below_j
-    has_j) in
+    rw tags at (leads_back _ _ _ _ _ j users_accepted groups_accepted translated mapped below_j has_j) in
     let back_k : Becomes specs (opposite direction) (id_of new k) (Some (id_of old k)) =
-    leads_back users groups direction old new k users_accepted groups_accepted translated mapped below has_k in
+    leads_back _ _ _ _ _ _ users_accepted groups_accepted translated mapped below has_k in
     let one : Becomes specs (opposite direction) (id_of new j) (Some merges.both) = rw tag_k at merges.one in
     let other : Becomes specs (opposite direction) (id_of new k) (Some merges.both) = rw tag_k at merges.other in
     let same : id_of old j ≡ id_of old k =
@@ -206,8 +201,8 @@ bytes_back users groups direction old new back place users_accepted groups_accep
           let k = byte.entry in
           let size : length back ≡ length old = returned.rest.size ∙ translated.rest.size in
           same_byte old back (8 + 8 * k) place old_bytes back_bytes (omega (arith, byte.is_entry, whole.whole)) size
-          (same_id users groups direction old new back k users_accepted groups_accepted translated mapped returned
-          byte.is_entry byte.has_id) byte.after (omega (arith, byte.before))
+          (same_id _ _ _ _ _ _ k users_accepted groups_accepted translated mapped returned byte.is_entry byte.has_id)
+          byte.after (omega (arith, byte.before))
       | inr no_id ↦
           returned.rest.rest place (λ byte. no_id (back_place byte)) ∙ translated.rest.rest place no_id
     ] where

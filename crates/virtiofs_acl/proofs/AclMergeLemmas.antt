@@ -109,15 +109,7 @@ AreInOrder-sorted placed up i j d from below =
 -- what stands between two of one tag and of one number has both, and comes no later than the second
 between : (one middle other : EntryRoom) → IsNotAfter one middle → IsNotAfter middle other → one.tag ≡ other.tag
     → one.id ≡ other.id → (middle.tag ≡ other.tag) × (middle.id ≡ other.id) × (middle.entry ≤ other.entry)
-between one middle other (inl a) (inl b) tag id = absurd (omega arith)
-between one middle other (inl a) (inr (inl b)) tag id = absurd (omega arith)
-between one middle other (inl a) (inr (inr b)) tag id = absurd (omega arith)
-between one middle other (inr (inl a)) (inl b) tag id = absurd (omega arith)
-between one middle other (inr (inl a)) (inr (inl b)) tag id = absurd (omega arith)
-between one middle other (inr (inl a)) (inr (inr b)) tag id = absurd (omega arith)
-between one middle other (inr (inr a)) (inl b) tag id = absurd (omega arith)
-between one middle other (inr (inr a)) (inr (inl b)) tag id = absurd (omega arith)
-between one middle other (inr (inr a)) (inr (inr b)) tag id = (b.0, b.1, b.2)
+between one middle other x3 x4 tag id = omega arith
 
 -- so it clashes with the second, or the first clashes with it
 clash_between : (value : List ℕ) (one middle other : EntryRoom) → IsNotAfter one middle → IsNotAfter middle other
@@ -126,8 +118,7 @@ clash_between value one middle other before after clashes = search (rules, betwe
 
 -- what is no greater than a number is no greater than a greater one
 no_greater : (found : Option ℕ) (a b : ℕ) → a ≤ b → IsSomeAnd found (λ k. k ≤ a) → IsSomeAnd found (λ k. k ≤ b)
-no_greater None a b up below = below
-no_greater (Some k) a b up below = omega arith
+no_greater x0 a b up below = search rules
 
 -- one more: what is found now is no greater than what was found before, nor than the next one if it clashes with its
 -- neighbour

@@ -331,7 +331,7 @@ fn push_explanation(
             text.push_str("    no rules: keeps its name\n")
         }
         (Explanation::NoRules, _) => text.push_str("    xattrs are off: calls fail\n"),
-        _ => text.push_str("    refused\n"),
+        _ => text.push_str("    not told\n"),
     }
 }
 

@@ -19,6 +19,7 @@ use virtiofs_options::front::Asked;
 use virtiofs_options::guest::Guest;
 use virtiofs_options::options::OF_DAEMON;
 use virtiofs_options::running::{runs_daemon, shared_directory};
+use virtiofs_options::starter::By;
 use virtiofs_options::values::Values;
 
 /// What the host tells.
@@ -201,9 +202,12 @@ fn starter_at(
             None => Err(no_starter(rt.alloc(), text)),
         };
     }
-    match guest.starter.user {
-        Some(text) => starter(rt, values, text, 0),
-        None => Ok(None),
+    let has_ranges = !guest.uid_map.is_empty() || !guest.gid_map.is_empty();
+    match (guest.starter.user, guest.starter.by) {
+        (Some(text), _) => starter(rt, values, text, 0),
+        // (the programs that make a namespace make virtiofsd root there, from which it takes no ranges)
+        (None, By::InNamespace) if has_ranges => starter(rt, values, "0:0", 0),
+        _ => Ok(None),
     }
 }
 
@@ -430,7 +434,7 @@ fn starters_of(
         && !(values.subuid.is_empty() && values.subgid.is_empty())
     {
         return Err(told(format!(in rt.alloc();
-            "'--subuid' and '--subgid' are for '--run-as', which is not given\n"
+            "'--subuid' and '--subgid' are for '--run-as', or for a user whom words before the daemon's name: there is neither\n"
         )));
     }
     Ok(starters)

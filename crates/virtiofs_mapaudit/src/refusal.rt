@@ -13,9 +13,9 @@ pub(crate) fn refusal_line(alloc: Global, refusal: &Refusal<Global>) -> Result<S
         Refused::Spec(kind, place) => (translating(kind), place),
         Refused::Range(kind, place) => (ranging(kind), place),
         Refused::Own(kind) => {
-            let one = one_of(kind);
+            let (one, option) = (one_of(kind), ranging(kind));
             return format!(in alloc;
-                "guest {guest}: as which {one} its daemon acts is not known: --run-as USER tells"
+                "guest {guest}: as which {one} its daemon acts is not known: it has no {option}, and who starts it is not known (--run-as USER)"
             );
         }
         Refused::Rules => {

@@ -241,7 +241,7 @@ fn push_ids_line(
     set: &Option<IdSetUp<Global>>,
 ) -> Result<(), AllocError> {
     let Some(set) = set else {
-        return text.push_str("refused");
+        return text.push_str("not told");
     };
     push_map(text, &set.map, set.ranges.as_slice())?;
     push_namespace(text, kind, set.ranges.as_slice())
@@ -287,9 +287,12 @@ pub(crate) fn push_set_up(
 }
 
 /// Whether the daemon of a guest runs as root of the host, or is taken to do so: no words say that another
-/// user starts it, and it has no ranges, with which root does not start.
+/// user starts it, or in a user namespace, and it has no ranges, with which root does not start.
 pub(crate) fn is_of_root(guest: &Guest<'_, Global>) -> bool {
     let options = &guest.options;
+    if is_in_namespace(guest) {
+        return false;
+    }
     match guest.runner {
         Some(runner) => runner.users.own == 0,
         None => {

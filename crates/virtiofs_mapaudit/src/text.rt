@@ -285,8 +285,8 @@ fn push_closing(
         };
     }
     text.push_str(match (are_refused, has_accepted(accepted, found)) {
-        (true, false) => "nothing found in what was not refused\n",
-        (true, true) => "nothing else found in what was not refused\n",
+        (true, false) => "nothing found in what is told\n",
+        (true, true) => "nothing else found in what is told\n",
         (false, false) => "nothing found\n",
         (false, true) => "nothing else found\n",
     })

@@ -150,7 +150,7 @@ type Bands = Result<Vec<Band>, &'static str>;
 /// one where they do not come from the guest as what they become there.
 pub(super) fn bands_of(alloc: Global, set: &IdSet, faulty: &[Band]) -> Made<Bands> {
     let (Some(set), mut all) = (set, Vec::new(alloc)) else {
-        return Ok(Err("a value is refused"));
+        return Ok(Err("not told"));
     };
     if set
         .map
