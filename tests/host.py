@@ -132,7 +132,8 @@ def processes(room, stand_in):
 
 def running(room, stand_in):
     """The same for all daemons that run."""
-    if run(["pgrep", "-x", "virtiofsd"])[0] == 0:
+    # (one that has ended, of which the first process has not yet heard, does not run)
+    if run(["pgrep", "-x", "-r", "D,R,S,T,t", "virtiofsd"])[0] == 0:
         left_out("all daemons that run", "a virtiofsd runs here")
         return
     yield "no daemon", ["--running"], 0, "no virtiofsd runs here\n"
