@@ -208,7 +208,7 @@ def files(room, _):
     yield "a user by name, and a group", ["--run-as", f"{user.pw_name}:4321", *both(given), *daemon_of(200000, 1000)], 5, "the first --uid-map has ids that the user may not"
     yield "a user by name, and no group", ["--run-as", f"{user.pw_name}:", *both(given), *daemon_of(200000, 1000)], 2, f"'{user.pw_name}:' is no user"
     for words in (["sudo", "-u", user.pw_name], ["sudo", f"-u#{user.pw_uid}"], ["runuser", f"--user={user.pw_name}", "--"], ["su", "-", user.pw_name, "-c"],
-                  ["systemd-run", "-p", f"User={user.pw_name}"], ["gosu", f"{user.pw_name}:{user.pw_gid}"]):
+                  ["systemd-run", "-p", f"User={user.pw_name}"], ["run0", "-u", user.pw_name], ["gosu", f"{user.pw_name}:{user.pw_gid}"]):
         name = " ".join(words)
         yield f"a user whom words name: {name}", [*both(given), "--", *words, *daemon_of(200000, 1000)[1:]], 0, f"started by user {user.pw_uid}\n"
         yield f"one to whom no line gives ids: {name}", [*both(none), "--", *words, *daemon_of(200000, 1000)[1:]], 5, "the first --uid-map has ids that the user may not"

@@ -11,6 +11,7 @@ the next command too. Links lead somewhere, and named files are there. The last 
 """
 import os
 import re
+import shlex
 import subprocess
 import sys
 import tempfile
@@ -125,6 +126,16 @@ def kinds_differ(name, page, environment):
     return not (told == of_page == completed) and f"--accept takes {told}, the page has {of_page}, the completion {completed}"
 
 
+def starters_differ(page):
+    """The programs that start others, where those of the manual page are not those of the table."""
+    table = (TOP / "crates/virtiofs_options/src/options.rt").read_text("utf-8")
+    known = sorted(set(re.findall(r'^ {4}"([\w-]+)": .* => \w+,$', table, re.M)))
+    listed = re.search(r"of these cases the first counts.*?^\.RS\n(.*?)^\.RE$", section(page, "CAVEATS"), re.M | re.S)[1]
+    bold = [it.split()[0] for line in re.findall(r"^\.BR? (.*)", plain(listed), re.M) for it in shlex.split(line)[::2]]
+    of_page = sorted({it for it in bold if not it.startswith("-")})
+    return known != of_page and f"the table has {known}, and the page {of_page}"
+
+
 def see_build(tally, programs, shown, asked):
     """Runs commands with these programs, which one compiler built, first on the path."""
     with tempfile.TemporaryDirectory(prefix="path-") as room:
@@ -151,6 +162,8 @@ def main(words):
         see_names(tally, page)
     recipes = re.findall(r'^const \w+: &str = "(.+)";$', (TOP / "crates/virtiofs_mapaudit/src/kinds.rt").read_text("utf-8"), re.M)
     tally.see("recipes", not recipes or [it for it in recipes if f"\n## {it}\n" not in (TOP / "docs/ADMIN.md").read_text("utf-8")])
+    if "virtiofs_mapaudit" in shown:
+        tally.see("programs that start others", starters_differ(shown["virtiofs_mapaudit"]))
     for name in sorted({it.stem for it in programs}):
         see_man(tally, name)
     for suffix in sorted({it.suffix for it in programs}):

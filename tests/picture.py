@@ -30,6 +30,7 @@ CASES = """-- virtiofsd
 --uid-map :0:5:9: --uid-map :4:4294967290:99: --gid-map :7:7:0:
 --uid-map :0:9:5: --translate-uid forbid-guest:5:4294967290 --gid-map :0:7:1: --translate-gid forbid-guest:1:4294967294
 --accept root -- virtiofsd
+--run-as 1000:1000 -- virtiofsd --sandbox=none
 -- virtiofsd -- virtiofsd --translate-uid map:0:5:9 -- virtiofsd"""
 COMMAND = re.compile(r"^virtiofs_mapaudit --svg ((?:.*\\\n)*.*) > docs/picture.svg$", re.M)
 
@@ -116,9 +117,10 @@ def wrong(text, words, guests, status):
     is_each = sorted(named) == [at + 1 for at in range(len(guests))] and [*numbers_in(titles, 1)] == sorted(numbers_in(titles, 1))
     has_process = all(f", process {pid} of user" in titles[-1] for it, pid in zip(given, given[1:]) if it == "--pid")
     yield from [] if is_each and has_process and {*titles} <= {*shown} else [f"{titles} name {named}"]
+    yield from ["outside of no namespace"] if "--sandbox=none" in words and "host, outside the namespace" in shown else []
     yield from ["nothing found?"] if (status == 0) != any(re.match("nothing (else )?found$", it) for it in shown) else []
     yield from (f"cut: {it}" for it in shown if re.match("--translate[^']*$", it) and not {*it.split()} <= {"..", *given})
-    told = str([it.findtext(f"{SVG}desc") for it in root.findall(f"{SVG}g")]) + "--virtiofsd --accept root --pid"
+    told = str([it.findtext(f"{SVG}desc") for it in root.findall(f"{SVG}g")]) + "--virtiofsd --accept root --pid --run-as 1000:1000"
     yield from (f"no word {it[:50]}" for it in words if re.match(r"[\w:-]{,80}\Z", it) and it not in told)
     yield from [f"{len(text)} bytes"] if len(text) >= 65536 else []
 

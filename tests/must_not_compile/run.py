@@ -5,10 +5,9 @@ that reads its ranges or its tries without counting the step.
 caller.rt.txt is a program that must compile, or the refusals would show nothing. An edit puts 'new: TEXT' in the place
 of 'old: TEXT', which stands once in the program, or in the file of the library that 'in: PATH' names. The edited line
 must get 'error: NAME' first. (`rt try` tells of borrows only if the types are right, so these edits have a copy of their
-own.) The sources of ranges and tries are read for new counters that are thrown away. The ids of users and of groups must
-differ only in names. The last line is 'N passed, N failed'.
+own.) The sources of ranges and tries are read for new counters that are thrown away. The last line is 'N passed, N
+failed'.
 """
-import difflib
 import os
 import re
 import shutil
@@ -55,15 +54,6 @@ def see_counters(tally):
     tally.see("lost counters would be seen", [*lost_counters(LOST)] != ["find", "find"] and "they are not")
 
 
-def see_names(tally):
-    """Sees that the file on users is the file on groups, byte for byte, once its words are replaced."""
-    users, groups = ((SOURCE / "id_types" / it).read_bytes().decode() for it in ("uids.rt", "gids.rt"))
-    for of_user, of_group in (("Uid", "Gid"), ("uid", "gid"), ("user", "group")):
-        users = users.replace(of_user, of_group)
-    differing = difflib.unified_diff(users.splitlines(True), groups.splitlines(True), "users", "groups")
-    tally.see("uids.rt and gids.rt", "".join(differing))
-
-
 def lay_out(room):
     """Makes a repository with the libraries and the crate `caller`."""
     shutil.copytree(TOP, room, ignore=shutil.ignore_patterns(".git", "out"))
@@ -99,7 +89,6 @@ def tried(room):
 
 def main():
     tally = Tally()
-    see_names(tally)
     see_counters(tally)
     with tempfile.TemporaryDirectory(prefix="must-not-compile-") as top, ThreadPoolExecutor(2) as pool:
         # (the program that rt runs as nobody lies in it)

@@ -1,8 +1,6 @@
-pub mod ForCallers
 mod AclNameLemmas
 mod AdviceLemmas
 mod AlikeLemmas
-mod ExplainIdLemmas
 mod ExplainLemmas
 mod ExplainQuestionLemmas
 mod IdLemmas

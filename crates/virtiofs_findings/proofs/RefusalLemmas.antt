@@ -11,7 +11,7 @@ use Rattle.std.specs.Str.{chars}
 use Rattle.virtiofs_map.proofs.ForCallers.{texts_no_fault, rules_no_fault}
 use Rattle.virtiofs_findings.proofs.SetUpLemmas.{ranges_right}
 use Rattle.virtiofs_findings.specs.Guests.{HasNoRange, RefusesSpecs, RefusesRanges, ReadsIds, ReadsNames, SetsUp, IsRefused}
-use Rattle.virtiofs_findings.specs.Refusals.{TellsNoRange, TellsRanges, TellsIds, TellsNames, TellsGuest}
+use Rattle.virtiofs_findings.specs.Refusals.{TellsNoRange, TellsRanges, TellsSpecs, TellsIds, TellsNames, TellsGuest}
 use Rattle.virtiofs_findings.specs.Refusals.{TellsGuests, IsSomeRefused}
 use Rattle.virtiofs_findings.specs.declared.ids.kind.IdKind.{IdKind}
 use Rattle.virtiofs_findings.specs.declared.refusal.Refusal.{Refusal}
@@ -51,6 +51,10 @@ no_range_told : {A : Type 0} (number : ℕ) (kind : IdKind) (texts : List (List 
     → TellsNoRange number kind texts told → (told ≢ []) ↔ HasNoRange texts
 no_range_told number kind texts told it = grind (arith, no_range_at, one_some)
 
+specs_told : {A : Type 0} (number : ℕ) (kind : IdKind) (texts : List (List ℕ)) (told : List (Refusal A))
+    → TellsSpecs number kind texts told → (told ≢ []) ↔ RefusesSpecs texts
+specs_told number kind texts told it = grind (arith, one_some)
+
 ranges_told : {A : Type 0} (number : ℕ) (kind : IdKind) (by_another : Bool) (texts : List (List ℕ))
     (told : List (Refusal A)) → TellsRanges number kind by_another texts told
     → (told ≢ []) ↔ RefusesRanges by_another texts
@@ -61,10 +65,10 @@ ranges_told number kind by_another texts told (inr (unknown, (refusal, at, alone
 
 -- ---- what is set up
 
-ids_none : {A : Type 0} (bounds : Option (Bounds A)) (by_another sets_up : Bool) (specs ranges : List (List ℕ))
-    (set : Option (IdSetUp A)) → ReadsIds bounds by_another sets_up specs ranges set
+ids_none : {A : Type 0} (bounds : Option (Bounds A)) (by_another own_alone : Bool) (specs ranges : List (List ℕ))
+    (set : Option (IdSetUp A)) → ReadsIds bounds by_another own_alone specs ranges set
     → (RefusesSpecs specs ⊎ RefusesRanges by_another ranges) ↔ (set ≡ None)
-ids_none bounds by_another sets_up specs ranges (Some set) (say, accepted, reads, runs) = (
+ids_none bounds by_another own_alone specs ranges (Some set) (say, accepted, reads, runs) = (
   (λ wrong. elim wrong [
     | inl (fault, has) ↦ absurd (texts_no_fault specs set.map fault say accepted has)
     | inr (inl none) ↦ absurd (ranges_right ranges set.written.items reads.0 none)
@@ -72,17 +76,17 @@ ids_none bounds by_another sets_up specs ranges (Some set) (say, accepted, reads
   ]),
   (λ none. absurd (none-some set (sym none))),
 )
-ids_none bounds by_another sets_up specs ranges None refused = ((λ wrong. refl), (λ none. refused))
+ids_none bounds by_another own_alone specs ranges None refused = ((λ wrong. refl), (λ none. refused))
 
-ids_told : {A : Type 0} (bounds : Option (Bounds A)) (by_another sets_up : Bool) (number : ℕ) (kind : IdKind)
+ids_told : {A : Type 0} (bounds : Option (Bounds A)) (by_another own_alone : Bool) (number : ℕ) (kind : IdKind)
     (specs ranges : List (List ℕ)) (set : Option (IdSetUp A)) (told : List (Refusal A))
-    → ReadsIds bounds by_another sets_up specs ranges set → TellsIds number kind by_another specs ranges told
+    → ReadsIds bounds by_another own_alone specs ranges set → TellsIds number kind by_another specs ranges told
     → (told ≢ []) ↔ (set ≡ None)
-ids_told bounds by_another sets_up number kind specs ranges set told reads tells =
-    let none = ids_none bounds by_another sets_up specs ranges set reads in
+ids_told bounds by_another own_alone number kind specs ranges set told reads tells =
+    let none = ids_none bounds by_another own_alone specs ranges set reads in
     let both =
     both_some (RefusesSpecs specs) (RefusesRanges by_another ranges) tells.of_specs tells.of_ranges told tells.whole
-    (grind arith) (ranges_told number _ by_another ranges tells.of_ranges tells.tells_ranges) in
+    (specs_told number _ specs tells.of_specs tells.tells_specs) (ranges_told number _ by_another ranges tells.of_ranges tells.tells_ranges) in
     ((λ some. none.0 (both.0 some)), (λ is. both.1 (none.1 is)))
 
 names_told : {A : Type 0} (number : ℕ) (rules : Option (Bor (List ℕ))) (set : Option (NamesSetUp A))

@@ -20,7 +20,6 @@ use Rattle.virtiofs_map.specs.RulesFault.{rules_fault_of}
 use Rattle.virtiofs_map.specs.SpecificationText.{SpecificationFault, specification_fault_of}
 use Rattle.virtiofs_map.specs.Specifications.{texts_of, AllSay, SpecsFault, Unread, Unbuilt, specs_fault_of}
 use Rattle.virtiofs_map.specs.declared.cmdline.IdMap.{IdMap}
-use Rattle.virtiofs_map.specs.declared.cmdline.IdMapError.{IdMapError}
 use Rattle.virtiofs_map.specs.declared.idmap.UidMap.{UidMap}
 use Rattle.virtiofs_map.specs.declared.soft_idmap.errors.IdMapBuildError.{IdMapBuildError}
 use Rattle.virtiofs_map.specs.declared.soft_idmap.errors.SpecsError.{SpecsError}
@@ -29,10 +28,9 @@ use Rattle.virtiofs_map.specs.declared.xattrmap.errors.Error.{Error}
 use Rattle.virtiofs_map.proofs.ForCallers.{AllZip-push, texts_no_fault, namespace_no_fault, rules_no_fault}
 use Rattle.virtiofs_findings.specs.Guests.{SaysRange, HasNoRange, LeaveUnknown, ReadsText, SetsUp, is_by_another}
 use Rattle.virtiofs_findings.specs.Lists.{Adds}
-use Rattle.virtiofs_findings.specs.Refusals.{IsAt, TellsPlace, TellsBuildFault, TellsSpecsFault, TellsIds}
+use Rattle.virtiofs_findings.specs.Refusals.{IsAt, IsReason, TellsSpecsFault, TellsIds}
 use Rattle.virtiofs_findings.specs.Refusals.{TellsSpecs, TellsNoRange, TellsRanges, TellsNames, TellsGuest, place_of}
 use Rattle.virtiofs_findings.specs.declared.refusal.Refusal.{Refusal}
-use Rattle.virtiofs_findings.specs.declared.refusal.Refused.{Refused}
 use Rattle.virtiofs_findings.specs.declared.refusal.Refused.TheVariants.{Spec, Range, Own, Rules}
 use Rattle.virtiofs_findings.specs.declared.ids.kind.IdKind.{IdKind}
 use Rattle.virtiofs_findings.specs.declared.ids.kind.IdKind.TheVariants.{Users, Groups}
@@ -59,59 +57,46 @@ adds_both : {T : Type 0} (P Q R : List T → Type 0) (before between after : Lis
     → Adds Q between after → ((first second : List T) → P first → Q second → R (first ++ second)) → Adds R before after
 adds_both P Q R before between after first second whole = grind (arith, common_steps, in_two)
 
--- a call that tells a fault
-pub tells_fault : {F T E : Type 0} (r : Result T E) (told : Option F) (fault : F) → told ≡ Some fault
-    → OnOk r ((f : F) × (told ≡ Some f))
-tells_fault r told fault is = grind arith
-
--- a refusal of an option at a place
-pub adds_place : {A T E : Type 0} (r : Result T E) (before after : List (Refusal A)) (number : ℕ)
-    (what : Refused) (why : List ℕ)
-    → OnOk r ((refusal : Refusal A) × IsAt number what refusal × (string_bytes refusal.why ≡ why)
+-- a refusal of a specification
+pub adds_fault : {A T E : Type 0} (r : Result T E) (error : SpecsError A) (place : ℕ) (before after : List (Refusal A))
+    (number : ℕ) (kind : IdKind) (why : List ℕ) → Some place ≡ option_map place_of (specs_fault_of error)
+    → ((build : IdMapBuildError) → error ≡ errors.Build build → why ≡ build_error_text build)
+    → OnOk r ((refusal : Refusal A) × IsAt number (Spec kind place) refusal × (string_bytes refusal.why ≡ why)
     × (after ≡ before ++ refusal ∷ []))
-    → OnOk r (Adds (TellsPlace number what) before after)
-adds_place (Ok x) before after number what why (refusal, at, same, added) = search rules
-adds_place (Err e) before after number what why added = tt
-
--- a refusal of a specification of which no map is made
-pub adds_build : {A T E : Type 0} (r : Result T E) (error : IdMapBuildError) (fault : BuildFault)
-    (before after : List (Refusal A))
-    (number : ℕ) (kind : IdKind) (why : List ℕ)
-    → build_fault_of error ≡ Some fault → why ≡ build_error_text error
-    → OnOk r ((refusal : Refusal A) × IsAt number (Spec kind (place_of fault)) refusal × (string_bytes refusal.why ≡ why)
-    × (after ≡ before ++ refusal ∷ []))
-    → OnOk r ((f : BuildFault) × (build_fault_of error ≡ Some f) × Adds (TellsBuildFault number kind f) before after)
-adds_build (Ok x) error fault before after number kind why about is (refusal, at, same, added) = (
-  fault,
-  about,
-  record {
-    more = refusal ∷ [];
-    is = record { error = error; refusal = refusal; about = about; at = at; why = same ∙ is; alone = refl };
-    added = added;
-  },
-)
-adds_build (Err e) error fault before after number kind why about is added = tt
-
--- the fault of a text is one of the list
-pub adds_unread : {A T E : Type 0} (r : Result T E) (error : SpecsError A) (index : ℕ) (cause : IdMapError A)
-    (number : ℕ) (kind : IdKind) (before after : List (Refusal A))
-    → error ≡ errors.Spec index cause
-    → OnOk r (Adds (TellsPlace number (Spec kind index)) before after)
-    → OnOk r ((f : SpecificationFault) × (specification_fault_of cause ≡ Some f))
     → OnOk r ((f : SpecsFault) × (specs_fault_of error ≡ Some f) × Adds (TellsSpecsFault number kind f) before after)
-adds_unread (Ok x) error index cause number kind before after is adds (fault, tells) =
-    (Unread index fault, ap specs_fault_of is ∙ ap (option_map (Unread index)) tells, adds)
-adds_unread (Err e) error index cause number kind before after is adds more = tt
+adds_fault (Err e) error place before after number kind why at says told = tt
+adds_fault {A = A} (Ok x) error place before after number kind why is says (refusal, at, same, added) =
+    by (specs_fault_of error) refl is where
+      reason : (error : SpecsError A) (fault : SpecsFault) → specs_fault_of error ≡ Some fault
+          → ((build : IdMapBuildError) → error ≡ errors.Build build → string_bytes refusal.why ≡ build_error_text build)
+          → IsReason fault refusal
+      reason error (Unread index fault) same says = tt
+      reason (errors.Spec index cause) (Unbuilt fault) same says = absurd (unread (specification_fault_of cause) same) where
+        unread : (told : Option SpecificationFault) → option_map (Unread index) told ≡ Some (Unbuilt fault) → ⊥
+        unread None e = cc
+        unread (Some f) e = cc
+      reason (errors.Build build) (Unbuilt fault) same says = (build, built (build_fault_of build) same, says build refl) where
+        built : (told : Option BuildFault) → option_map Unbuilt told ≡ Some (Unbuilt fault) → told ≡ Some fault
+        built None e = absurd (cc)
+        built (Some f) e = cc
 
--- and so is that of the map
-pub adds_unbuilt : {A T E : Type 0} (r : Result T E) (error : SpecsError A) (cause : IdMapBuildError)
-    (number : ℕ) (kind : IdKind) (before after : List (Refusal A))
-    → error ≡ errors.Build cause
-    → OnOk r ((f : BuildFault) × (build_fault_of cause ≡ Some f) × Adds (TellsBuildFault number kind f) before after)
-    → OnOk r ((f : SpecsFault) × (specs_fault_of error ≡ Some f) × Adds (TellsSpecsFault number kind f) before after)
-adds_unbuilt (Ok x) error cause number kind before after is (fault, tells, adds) =
-    (Unbuilt fault, ap specs_fault_of is ∙ ap (option_map Unbuilt) tells, adds)
-adds_unbuilt (Err e) error cause number kind before after is told = tt
+      by : (told : Option SpecsFault) → specs_fault_of error ≡ told → Some place ≡ option_map place_of told
+          → (f : SpecsFault) × (specs_fault_of error ≡ Some f) × Adds (TellsSpecsFault number kind f) before after
+      by None e is = absurd (cc)
+      by (Some fault) e is = (
+        fault,
+        e,
+        record {
+          more = refusal ∷ [];
+          is = record {
+            refusal = refusal;
+            at = subst (λ n. IsAt number (Spec kind n) refusal) (same_Some _ _ is) at;
+            why = reason error fault e (λ build e. same ∙ says build e);
+            alone = refl;
+          };
+          added = added;
+        },
+      )
 
 -- nothing is told of specifications of which a map is made
 pub adds_no_specs : {A : Type 0} (number : ℕ) (kind : IdKind) (texts : List (List ℕ)) (specs : List IdMap)

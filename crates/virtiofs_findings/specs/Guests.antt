@@ -66,8 +66,8 @@ ReadsRanges by_another texts (Some ranges) = AllZip SaysRange texts ranges × (�
 ReadsRanges by_another texts None = RefusesRanges by_another texts
 
 -- the namespace that the daemon runs in, by the ranges of its options and by who runs it; what is wrong with these ranges
-pub record RunsIn {A : Type 0} (bounds : Option (Bounds A)) (sets_up : Bool) (set : IdSetUp A) : Type 0 where
-  pub ranges : set.ranges.items ≡ ranges_of bounds sets_up (taken (said_own bounds) set.written.items)
+pub record RunsIn {A : Type 0} (bounds : Option (Bounds A)) (own_alone : Bool) (set : IdSetUp A) : Type 0 where
+  pub ranges : set.ranges.items ≡ ranges_of bounds own_alone (taken (said_own bounds) set.written.items)
   pub fault : FindsFault bounds (taken (said_own bounds) set.written.items) set.fault
   pub differs : IsTrue set.differs ↔ Differ bounds (taken (said_own bounds) set.written.items)
 
@@ -97,8 +97,8 @@ has_namespaces guest = is_namespaces (sandbox_of (text_in guest.options.sandbox)
 
 -- the daemon can act as some ids alone: as those of its ranges, in a sandbox that is made of namespaces; or, if it is not
 -- root who starts it, as the one that it runs as
-abbrev pub is_bounded : {A : Type 0} → Guest A → Bool
-is_bounded guest = (has_namespaces guest && has_ranges guest) || nat_lt 0 (own_of (users_of guest))
+abbrev pub acts_as_own : {A : Type 0} → Guest A → Bool
+acts_as_own guest = (has_namespaces guest && has_ranges guest) || nat_lt 0 (own_of (users_of guest))
 
 -- another user than root starts the daemon, of whom it is not said who it is: words say so, or it has ranges of a
 -- namespace, with which root does not start
@@ -108,12 +108,7 @@ is_other Another = true
 is_other InNamespace = false
 
 abbrev pub is_by_another : {A : Type 0} → Guest A → Bool
-is_by_another guest =
-    not (is_some guest.runner) && (is_other guest.options.starter.by || has_ranges guest)
-
--- the user who starts the daemon, if that is said
-abbrev pub starter_of : {A : Type 0} → Guest A → Option ℕ
-starter_of guest = option_map (λ bounds. bounds.own) (users_of guest)
+is_by_another guest = not (is_some guest.runner) && (is_other guest.options.starter.by || has_ranges guest)
 
 -- why a daemon does not start: with ranges it takes namespaces and a user who is not root, and another root folder takes
 -- root
@@ -131,15 +126,15 @@ no_start false Nothing starter = None
 abbrev pub no_start_of : {A : Type 0} → Guest A → Option NoStart
 no_start_of guest =
     if is_some (process_of guest) then None
-    else no_start (has_ranges guest) (sandbox_of (text_in guest.options.sandbox)) (starter_of guest)
+    else no_start (has_ranges guest) (sandbox_of (text_in guest.options.sandbox)) (said_own (users_of guest))
 
 -- what the texts set up for ids of a kind; nothing where one of them is refused
 abbrev pub ReadsIds : {A : Type 0} → Option (Bounds A) → Bool → Bool → List (List ℕ) → List (List ℕ)
     → Option (IdSetUp A) → Type 0
-ReadsIds bounds by_another sets_up texts ranges (Some set) =
+ReadsIds bounds by_another own_alone texts ranges (Some set) =
     AllSay texts set.map × Accepted set.map × ReadsRanges by_another ranges (Some set.written.items)
-    × RunsIn bounds sets_up set
-ReadsIds bounds by_another sets_up texts ranges None = RefusesSpecs texts ⊎ RefusesRanges by_another ranges
+    × RunsIn bounds own_alone set
+ReadsIds bounds by_another own_alone texts ranges None = RefusesSpecs texts ⊎ RefusesRanges by_another ranges
 
 -- the rules that the text says, and how many are written
 abbrev pub ReadsText : {A : Type 0} → List ℕ → NamesSetUp A → Type 0
@@ -161,9 +156,9 @@ Translates guest = (guest.options.translate_uid.items ≢ []) ⊎ (guest.options
 
 -- what the options of the daemon of a guest set up
 pub record SetsUp {A : Type 0} (guest : Guest A) (set : SetUp A) : Type 0 where
-  pub users : ReadsIds (users_of guest) (is_by_another guest) (is_bounded guest) (texts_of guest.options.translate_uid.items)
+  pub users : ReadsIds (users_of guest) (is_by_another guest) (acts_as_own guest) (texts_of guest.options.translate_uid.items)
       (texts_of guest.options.uid_map.items) set.users
-  pub groups : ReadsIds (groups_of guest) (is_by_another guest) (is_bounded guest) (texts_of guest.options.translate_gid.items)
+  pub groups : ReadsIds (groups_of guest) (is_by_another guest) (acts_as_own guest) (texts_of guest.options.translate_gid.items)
       (texts_of guest.options.gid_map.items) set.groups
   pub names : ReadsNames guest.options.xattrmap set.names
   pub passes : set.passes ≡ passes guest

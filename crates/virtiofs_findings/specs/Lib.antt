@@ -1,5 +1,4 @@
 pub mod AclNames
-pub mod AclParts
 pub mod Advice
 pub mod AlikeGuests
 pub mod Audited

@@ -1,7 +1,7 @@
 -- The ranges of a daemon's namespace, and what is wrong with those of its options: the daemon gets no namespace with
 -- such a range.
 use Rattle.std.specs.Prelude.{◌≡◌, ◌⊎◌, ℕ, ◌+◌, ◌-◌, ◌<◌, ◌≤◌, Bool, true, false, not, min, ◌==◌, ◌&&◌, if◌then◌else◌, List, [], ◌∷◌, ◌++◌}
-use Rattle.std.specs.Prelude.{codes, find, flat_map, length, nat_le, nat_lt, take, slice_get, Option, Some, None, MatchOption, option_map}
+use Rattle.std.specs.Prelude.{codes, find, flat_map, length, nat_le, nat_lt, take, slice_get, Option, Some, None, MatchOption, option_map, unwrap_or}
 use Rattle.std.specs.Fmt.{decimal}
 use Rattle.std.specs.List.{list_any}
 use Rattle.std.specs.Option.{option_and_then, option_map_or}
@@ -80,10 +80,12 @@ FindsFault bounds ranges (Some it) =
 abbrev pub shown_of : {A : Type 0} → Option (Bounds A) → Option (List UidMap)
 shown_of bounds = option_and_then (λ it. option_map (λ all. all.items) it.shown) bounds
 
--- the id that the daemon runs as: root, where nothing else is said
+-- the id that the daemon runs as, if that is said; root, where nothing is
+abbrev pub said_own : {A : Type 0} → Option (Bounds A) → Option ℕ
+said_own bounds = option_map (λ it. it.own) bounds
+
 abbrev pub own_of : {A : Type 0} → Option (Bounds A) → ℕ
-own_of None = 0
-own_of (Some bounds) = bounds.own
+own_of bounds = unwrap_or (said_own bounds) 0
 
 -- it can act as that one alone, where no namespace has others
 abbrev pub is_alone : {A : Type 0} → Option (Bounds A) → Bool
@@ -104,18 +106,18 @@ but_host (range ∷ other ∷ ranges) = range ∷ other ∷ ranges
 abbrev pub alone : ℕ → UidMap
 alone id = record { inside_uid = id; outside_uid = id; count = 1 }
 
--- the ranges that a daemon sets up: those of its options, or else, where it sets up a namespace, the id that it runs as
+-- the ranges of the options; where there are none, the id that the daemon runs as, if it acts as that alone
 abbrev pub set_up_ranges : Bool → ℕ → List UidMap → List UidMap
 set_up_ranges true own [] = alone own ∷ []
 set_up_ranges false own [] = []
-set_up_ranges sets_up own (range ∷ written) = range ∷ written
+set_up_ranges own_alone own (range ∷ written) = range ∷ written
 
--- those that the kernel shows, but in the namespace of the host, of who can act as one id alone, that id; or else those
--- that the daemon sets up
-abbrev pub ranges_of_all : {A : Type 0} → Option (Bounds A) → Bool → List UidMap → List UidMap
-ranges_of_all bounds sets_up written =
+-- before 65534 is taken out: those that the kernel shows (of a process in the namespace of the host that acts as one id
+-- alone: that id), or else those that the daemon sets up
+abbrev pub mapped_ranges : {A : Type 0} → Option (Bounds A) → Bool → List UidMap → List UidMap
+mapped_ranges bounds own_alone written =
     option_map_or (λ shown. set_up_ranges (is_alone bounds) (own_of bounds) (but_host shown)) (shown_of bounds)
-    (set_up_ranges sets_up (own_of bounds) written)
+    (set_up_ranges own_alone (own_of bounds) written)
 
 -- the range has that id inside
 abbrev pub has : UidMap → ℕ → Bool
@@ -131,10 +133,6 @@ some_has ranges n = list_any (λ range. has range n) ranges
 
 abbrev pub some_has_outside : List UidMap → ℕ → Bool
 some_has_outside ranges n = list_any (λ range. has_outside range n) ranges
-
--- the id that the daemon runs as, if that is said
-abbrev pub said_own : {A : Type 0} → Option (Bounds A) → Option ℕ
-said_own bounds = option_map (λ it. it.own) bounds
 
 -- as far as is said, the daemon is none of the ids of these ranges: neither 0, which it becomes where it can, nor the one
 -- that it runs as. Linux then shows it its own id as 65534
@@ -169,7 +167,7 @@ acting_ranges own ranges = if is_outside own ranges then flat_map but_overflow r
 
 -- the ranges of the namespace that the daemon runs in
 abbrev pub ranges_of : {A : Type 0} → Option (Bounds A) → Bool → List UidMap → List UidMap
-ranges_of bounds sets_up written = acting_ranges (said_own bounds) (ranges_of_all bounds sets_up written)
+ranges_of bounds own_alone written = acting_ranges (said_own bounds) (mapped_ranges bounds own_alone written)
 
 -- the ranges of the options as virtiofsd takes them: of a single one with the id that it runs as, a COUNT of 0 is one of 1
 abbrev pub is_own : Option ℕ → ℕ → Bool

@@ -1,10 +1,10 @@
 -- Which texts are refused, and what is told of them.
-use Rattle.std.specs.Prelude.{◌≡◌, ◌⊎◌, ℕ, Bool, List, [], ◌∷◌, ◌++◌, take, slice_get, string_bytes, IsSomeAnd}
+use Rattle.std.specs.Prelude.{◌≡◌, ◌⊎◌, ⊤, ℕ, Bool, List, [], ◌∷◌, ◌++◌, take, slice_get, string_bytes, IsSomeAnd}
 use Rattle.std.specs.Prelude.{Option, Some, None}
 use Rattle.std.specs.Borrow.{Bor}
 use Rattle.std.specs.List.{AllZip}
 use Rattle.std.specs.Str.{chars}
-use Rattle.virtiofs_map.specs.Build.{BuildFault, RangeOverflow, Intersects, build_fault_of}
+use Rattle.virtiofs_map.specs.Build.{RangeOverflow, Intersects, build_fault_of}
 use Rattle.virtiofs_map.specs.NamespaceText.{NamespaceFault, HasNamespaceFault}
 use Rattle.virtiofs_map.specs.Printed.{build_error_text, rules_error_text}
 use Rattle.virtiofs_map.specs.RulesFault.{RulesFault, HasRulesFault, rules_fault_of}
@@ -41,24 +41,24 @@ TellsPlace {A} number what told = (refusal : Refusal A) × IsAt number what refu
 -- ---- specifications
 
 -- the place of the specification at fault
-abbrev pub place_of : BuildFault → ℕ
-place_of (RangeOverflow spec index direction range_end) = index
-place_of (Intersects spec index direction) = index
+abbrev pub place_of : SpecsFault → ℕ
+place_of (Unread index fault) = index
+place_of (Unbuilt (RangeOverflow spec index direction range_end)) = index
+place_of (Unbuilt (Intersects spec index direction)) = index
 
--- the specification at fault is refused, for the reason that the library gives
-pub record TellsBuildFault {A : Type 0} (number : ℕ) (kind : IdKind) (fault : BuildFault) (told : List (Refusal A)) :
+-- where no map is made of the specifications, the reason is the one that the library gives
+abbrev pub IsReason : {A : Type 0} → SpecsFault → Refusal A → Type 0
+IsReason (Unread index fault) refusal = ⊤
+IsReason (Unbuilt fault) refusal = (error : IdMapBuildError) × (build_fault_of error ≡ Some fault)
+    × (string_bytes refusal.why ≡ build_error_text error)
+
+-- the specification at fault is refused
+pub record TellsSpecsFault {A : Type 0} (number : ℕ) (kind : IdKind) (fault : SpecsFault) (told : List (Refusal A)) :
     Type 0 where
-  pub error : IdMapBuildError
   pub refusal : Refusal A
-  pub about : build_fault_of error ≡ Some fault
   pub at : IsAt number (Spec kind (place_of fault)) refusal
-  pub why : string_bytes refusal.why ≡ build_error_text error
+  pub why : IsReason fault refusal
   pub alone : told ≡ refusal ∷ []
-
--- the text at fault is refused
-abbrev pub TellsSpecsFault : {A : Type 0} → ℕ → IdKind → SpecsFault → List (Refusal A) → Type 0
-TellsSpecsFault number kind (Unread index fault) told = TellsPlace number (Spec kind index) told
-TellsSpecsFault number kind (Unbuilt fault) told = TellsBuildFault number kind fault told
 
 -- what is told of the texts of specifications: nothing where they are not refused, and else of their first fault
 abbrev pub TellsSpecs : {A : Type 0} → ℕ → IdKind → List (List ℕ) → List (Refusal A) → Type 0

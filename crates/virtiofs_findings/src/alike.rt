@@ -87,27 +87,15 @@ fn with_one(alike: Alike, number: usize) -> Alike
     ensures { (numbers : List ℕ) → alike ≡ alike_of numbers
         → result ≡ alike_of (numbers ++ number ∷ []) }
 {
-    let Alike {
-        first,
-        second,
-        count,
-    } = alike;
-    match count {
-        0 => Alike {
-            first: number,
-            second: number,
-            count: 1,
+    let is_among_two = alike.count < 2;
+    Alike {
+        first: if alike.count == 0 {
+            number
+        } else {
+            alike.first
         },
-        1 => Alike {
-            first,
-            second: number,
-            count: 2,
-        },
-        _ => Alike {
-            first,
-            second,
-            count: count + 1,
-        },
+        second: if is_among_two { number } else { alike.second },
+        count: alike.count + 1,
     }
 }
 
@@ -135,11 +123,10 @@ pub fn likes_of<A: Allocator + Copy>(
 ) -> Result<Vec<Alike, A>, AllocError>
     ensures { IfOk result (λ likes. likes.items ≡ likes_of guests.now) }
 {
-    let mut likes = Vec::new(alloc);
-    for guest in guests {
-        likes.push(alike_to(guests, guest))?;
-    }
-    Ok(likes)
+    guests
+        .iter()
+        .map(|guest| alike_to(guests, guest))
+        .collect(alloc)
 }
 
 /// Whether the guest of a number is the first.

@@ -26,9 +26,10 @@ pub mod names;
 /// What becomes of an id or a name that is asked about.
 #[derive(Drop)]
 pub enum Explanation<'a> {
-    /// It is not known, since a text is refused.
+    /// It is not told: a text is refused, or it is not known as which id the daemon acts.
     Refused,
-    /// There are no rules: the name stays as it is.
+    /// No rules decide. The name stays as it is where extended attributes are on, but for the names of
+    /// access control lists where these are on.
     NoRules,
     /// Of an id.
     Id(IdWays),

@@ -9,6 +9,7 @@ use virtiofs_options::guest::Guest as GuestOptions;
 pub struct Guest<'a, A: Allocator> {
     /// The options.
     pub options: GuestOptions<'a, A>,
-    /// Who runs the daemon, if that is known. Without, all is as if root started it.
+    /// Who runs the daemon, if that is known. Without, the words before the daemon's and its ranges say
+    /// whether root does.
     pub runner: Option<&'a Runner<A>>,
 }

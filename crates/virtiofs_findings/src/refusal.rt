@@ -1,10 +1,10 @@
-//! Texts of options that are refused.
+//! Texts of options that are refused, and what is not known of a daemon.
 
 use crate::ids::kind::IdKind;
 use std::alloc::Allocator;
 
-/// Which text of the options of a guest is refused, or what is missing. Its place among the values of its option is counted
-/// from 0.
+/// Which text of the options of a guest is refused, or what is missing. Its place among the values of its
+/// option is counted from 0.
 #[derive(Clone, Copy)]
 pub enum Refused {
     /// A specification, of `--translate-uid` or `--translate-gid`.
@@ -22,7 +22,7 @@ pub enum Refused {
 pub struct Refusal<A: Allocator> {
     /// The number of the guest, counted from 1.
     pub guest: usize,
-    /// The text at fault.
+    /// What is refused, or not known.
     pub what: Refused,
     /// Why it is refused, as the library says it; empty where no text is.
     pub why: String<A>,

@@ -2,14 +2,12 @@
 ghost use Rattle.std.specs.Prelude.{◌≡◌, ◌≢◌, ◌++◌, ◌∷◌, ◌↔◌, [], IfOk, IfErr, IfSome, IfNone, IsTrue, IsFalse, OnOk, option_map, Some, None, string_bytes};
 ghost use Rattle.std.specs.Str.{chars};
 ghost use Rattle.virtiofs_map.specs.Refusal.{OutOfMemoryOr};
-ghost use Rattle.virtiofs_map.specs.Build.{BuildFault, build_fault_of};
 ghost use Rattle.virtiofs_map.specs.RulesFault.{RulesFault, HasRulesFault, rules_fault_of};
-ghost use Rattle.virtiofs_map.specs.SpecificationText.{SpecificationFault, specification_fault_of};
 ghost use Rattle.std.specs.Option.{option_map};
-ghost use Rattle.virtiofs_findings.specs.Guests.{ReadsSpecs, SayRanges, ReadsRanges, ReadsIds, RunsIn, is_other, is_by_another, users_of, groups_of, process_of, has_ranges, has_namespaces, is_bounded, starter_of, no_start, no_start_of, RefusesRules, ReadsText, ReadsNames, SetsUp, Translates, passes};
+ghost use Rattle.virtiofs_findings.specs.Guests.{ReadsSpecs, SayRanges, ReadsRanges, ReadsIds, RunsIn, is_other, is_by_another, users_of, groups_of, process_of, has_ranges, has_namespaces, acts_as_own, no_start, no_start_of, RefusesRules, ReadsText, ReadsNames, SetsUp, Translates, passes};
 ghost use Rattle.virtiofs_map.specs.Printed.{build_error_text, rules_error_text};
 ghost use Rattle.virtiofs_findings.specs.Lists.{Adds};
-ghost use Rattle.virtiofs_findings.specs.Refusals.{IsAt, TellsPlace, TellsBuildFault, TellsSpecsFault, TellsSpecs, TellsNoRange, TellsRanges, TellsIds, TellsNames, TellsGuest};
+ghost use Rattle.virtiofs_findings.specs.Refusals.{IsAt, place_of, TellsSpecsFault, TellsSpecs, TellsNoRange, TellsRanges, TellsIds, TellsNames, TellsGuest};
 ghost use Rattle.virtiofs_map.specs.Specifications.{SpecsFault, specs_fault_of, texts_of};
 
 use crate::guest::Guest;
@@ -38,7 +36,9 @@ pub struct IdSetUp<A: Allocator> {
     pub fault: Option<RangeFound>,
     /// Whether the kernel shows other ranges than these.
     pub differs: bool,
-    /// The ranges of the namespace that the daemon runs in; none where it runs in the host's.
+    /// The ranges by which the daemon acts as ids: those of its namespace, without 65534 where it is none
+    /// of their ids (one may then be two); without a namespace, the own id of who can act as no other.
+    /// Empty where it acts as each id of the host. Places here are not those of `written`.
     pub ranges: Vec<UidMap, A>,
 }
 
@@ -65,7 +65,7 @@ pub enum NoStart {
 /// What the options of the daemon of a guest set up.
 #[derive(Drop)]
 pub struct SetUp<A: Allocator> {
-    /// For users; `None` where a text for them is refused, or the daemon's own is not known.
+    /// For users; `None` where a text for them is refused, or it is not known as which user it acts.
     pub users: Option<IdSetUp<A>>,
     /// For groups; the same.
     pub groups: Option<IdSetUp<A>>,
@@ -77,8 +77,8 @@ pub struct SetUp<A: Allocator> {
     pub posix_acl: bool,
     /// Whether `--posix-acl` stands beside a translation of ids, with which the daemon does not start.
     pub acl_refused: bool,
-    /// Whether they are on beside a translation all the same, by `-o posix_acl`. The ids in them are then
-    /// not translated.
+    /// Whether access control lists are on beside a translation all the same, by `-o posix_acl`. The ids in
+    /// them are then not translated.
     pub acl_untranslated: bool,
     /// Why the daemon does not start as the user who runs it, or in its sandbox.
     pub no_start: Option<NoStart>,
@@ -101,25 +101,19 @@ fn tell<A: Allocator>(
     Ok(())
 }
 
-/// Tells what is wrong with the text of a specification of a guest.
-fn refuse_text<A: Allocator + Copy>(
-    alloc: A,
-    refusals: &mut Vec<Refusal<A>, A>,
-    number: usize,
-    what: Refused,
-    cause: &cmdline::IdMapError<A>,
-) -> Result<(), AllocError>
-    ensures told { OnOk result (Adds (TellsPlace number what)
-        refusals.old.items refusals.new.items) }
-    ensures faulty { OnOk result ((fault : SpecificationFault)
-        × (specification_fault_of cause.now ≡ Some fault)) }
+/// The place of the specification at fault; `None` where memory ran out.
+fn place_of<A: Allocator>(error: &SpecsError<A>) -> Option<usize>
+    ensures { result ≡ option_map place_of (specs_fault_of error.now) }
 {
-    let why = format!(in alloc; "{cause}")?;
-    match cause {
-        cmdline::IdMapError::InvalidPrefix(_) => tell(refusals, number, what, why),
-        cmdline::IdMapError::InvalidLength { .. } => tell(refusals, number, what, why),
-        cmdline::IdMapError::InvalidValue { .. } => tell(refusals, number, what, why),
-        cmdline::IdMapError::OutOfMemory => Err(AllocError),
+    match error {
+        SpecsError::Spec {
+            cause: cmdline::IdMapError::OutOfMemory,
+            ..
+        } => None,
+        SpecsError::Build(IdMapBuildError::OutOfMemory) => None,
+        SpecsError::Spec { index, .. } => Some(*index),
+        SpecsError::Build(IdMapBuildError::RangeOverflow { index, .. }) => Some(*index),
+        SpecsError::Build(IdMapBuildError::Intersects { index, .. }) => Some(*index),
     }
 }
 
@@ -135,27 +129,17 @@ fn build_sentence<A: Allocator + Copy>(
     Ok(why)
 }
 
-/// Tells why no map is made of the specifications of a guest.
-fn refuse_build<A: Allocator + Copy>(
+/// What it says of their texts.
+fn specs_sentence<A: Allocator + Copy>(
     alloc: A,
-    refusals: &mut Vec<Refusal<A>, A>,
-    number: usize,
-    kind: IdKind,
-    error: &IdMapBuildError,
-) -> Result<(), AllocError>
-    ensures { OnOk result ((fault : BuildFault) × (build_fault_of error.now ≡ Some fault)
-        × Adds (TellsBuildFault number kind fault)
-        refusals.old.items refusals.new.items) }
+    error: &SpecsError<A>,
+) -> Result<String<A>, AllocError>
+    ensures { IfOk result (λ why. (build : IdMapBuildError) → error.now ≡ SpecsError.Build build
+        → string_bytes why ≡ build_error_text build) }
 {
-    let why = build_sentence(alloc, error)?;
     match error {
-        IdMapBuildError::RangeOverflow { index, .. } => {
-            tell(refusals, number, Refused::Spec(kind, *index), why)
-        }
-        IdMapBuildError::Intersects { index, .. } => {
-            tell(refusals, number, Refused::Spec(kind, *index), why)
-        }
-        IdMapBuildError::OutOfMemory => Err(AllocError),
+        SpecsError::Spec { cause, .. } => format!(in alloc; "{cause}"),
+        SpecsError::Build(build) => build_sentence(alloc, build),
     }
 }
 
@@ -171,12 +155,11 @@ fn refuse_specs<A: Allocator + Copy>(
         × Adds (TellsSpecsFault number kind fault)
         refusals.old.items refusals.new.items) }
 {
-    match error {
-        SpecsError::Spec { index, cause } => {
-            refuse_text(alloc, refusals, number, Refused::Spec(kind, *index), cause)
-        }
-        SpecsError::Build(fault) => refuse_build(alloc, refusals, number, kind, fault),
-    }
+    let Some(place) = place_of(error) else {
+        return Err(AllocError);
+    };
+    let why = specs_sentence(alloc, error)?;
+    tell(refusals, number, Refused::Spec(kind, place), why)
 }
 
 /// The map of the specifications of a guest, or none where a text is refused.
@@ -253,18 +236,18 @@ fn read_ranges<A: Allocator + Copy>(
 fn in_namespace<A: Allocator + Copy>(
     alloc: A,
     bounds: Option<&Bounds<A>>,
-    sets_up: bool,
+    own_alone: bool,
     map: Ids<A>,
     written: Vec<UidMap, A>,
 ) -> Result<IdSetUp<A>, AllocError>
     ensures map { IfOk result (λ set. set.map ≡ map) }
     ensures written { IfOk result (λ set. set.written.items ≡ written.items) }
-    ensures runs { IfOk result (RunsIn (option_map (λ it. it.now) bounds.entry) sets_up) }
+    ensures runs { IfOk result (RunsIn (option_map (λ it. it.now) bounds.entry) own_alone) }
 {
     let taken = taken(alloc, said_own(bounds), written.as_slice())?;
     let fault = first_fault(alloc, bounds, taken.as_slice())?;
     let differs = differ(bounds, taken.as_slice());
-    let ranges = ranges_of(alloc, bounds, sets_up, taken.as_slice())?;
+    let ranges = ranges_of(alloc, bounds, own_alone, taken.as_slice())?;
     Ok(IdSetUp {
         map,
         written,
@@ -282,12 +265,12 @@ fn read_ids<A: Allocator + Copy>(
     kind: IdKind,
     bounds: Option<&Bounds<A>>,
     by_another: bool,
-    sets_up: bool,
+    own_alone: bool,
     specs: &[&str],
     ranges: &[&str],
 ) -> Result<Option<IdSetUp<A>>, AllocError>
     ensures read { IfOk result (ReadsIds (option_map (λ it. it.now) bounds.entry) by_another
-        sets_up (texts_of specs.now) (texts_of ranges.now)) }
+        own_alone (texts_of specs.now) (texts_of ranges.now)) }
     ensures says { OnOk result (Adds
         (TellsIds number kind by_another (texts_of specs.now) (texts_of ranges.now))
         refusals.old.items refusals.new.items) }
@@ -300,7 +283,7 @@ fn read_ids<A: Allocator + Copy>(
     let Some(written) = ranges else {
         return Ok(None);
     };
-    Ok(Some(in_namespace(alloc, bounds, sets_up, map, written)?))
+    Ok(Some(in_namespace(alloc, bounds, own_alone, map, written)?))
 }
 
 /// What a text of rules sets up, or the first thing that is wrong with it.
@@ -439,10 +422,10 @@ fn has_namespaces<A: Allocator + Copy>(guest: &Guest<'_, A>) -> bool
     matches!(guest.options.kept_apart(), Sandbox::Namespace)
 }
 
-/// Whether the daemon of a guest can act as some ids alone: as those of its ranges, in a sandbox that is
-/// made of namespaces; or, if it is not root who starts it, as the one that it runs as.
-fn is_bounded<A: Allocator + Copy>(guest: &Guest<'_, A>) -> bool
-    ensures { result ≡ is_bounded guest.now }
+/// Whether the daemon of a guest acts, for a kind without ranges, as its own id alone: it has ranges of the
+/// other kind in a sandbox of namespaces, or it is not root who starts it.
+fn acts_as_own<A: Allocator + Copy>(guest: &Guest<'_, A>) -> bool
+    ensures { result ≡ acts_as_own guest.now }
 {
     has_namespaces(guest) && has_ranges(guest) || own_of(users_of(guest)) > 0
 }
@@ -454,21 +437,12 @@ fn is_other(by: By) -> bool
     matches!(by, By::Another)
 }
 
-/// Whether another user than root starts the daemon of a guest, of whom it is not said who it is.
+/// Whether another user than root starts the daemon of a guest, of whom it is not said who it is: words say
+/// so, or it has ranges of a namespace, with which root does not start.
 fn is_by_another<A: Allocator>(guest: &Guest<'_, A>) -> bool
     ensures { result ≡ is_by_another guest.now }
 {
     guest.runner.is_none() && (is_other(guest.options.starter.by) || has_ranges(guest))
-}
-
-/// The user who starts the daemon of a guest, if that is said.
-fn starter_of<A: Allocator>(guest: &Guest<'_, A>) -> Option<u32>
-    ensures { result ≡ starter_of guest.now }
-{
-    match guest.runner {
-        Some(runner) => Some(runner.users.own),
-        None => None,
-    }
 }
 
 /// Why the daemon of a guest does not start, if it does not run already.
@@ -481,7 +455,7 @@ fn no_start_of<A: Allocator + Copy>(guest: &Guest<'_, A>) -> Option<NoStart>
     no_start(
         has_ranges(guest),
         guest.options.kept_apart(),
-        starter_of(guest),
+        said_own(users_of(guest)),
     )
 }
 
@@ -516,7 +490,7 @@ pub(crate) fn set_up<A: Allocator + Copy>(
         IdKind::Users,
         users_of(guest),
         is_by_another(guest),
-        is_bounded(guest),
+        acts_as_own(guest),
         guest.options.translate_uid.as_slice(),
         guest.options.uid_map.as_slice(),
     )?;
@@ -527,7 +501,7 @@ pub(crate) fn set_up<A: Allocator + Copy>(
         IdKind::Groups,
         groups_of(guest),
         is_by_another(guest),
-        is_bounded(guest),
+        acts_as_own(guest),
         guest.options.translate_gid.as_slice(),
         guest.options.gid_map.as_slice(),
     )?;

@@ -14,6 +14,7 @@ mod cut;
 pub mod decimal;
 pub mod error;
 pub mod id_map;
+mod lines;
 pub mod runner;
 pub mod status;
 pub mod subordinate;

@@ -1,67 +1,65 @@
 //! The ids that a process runs as, whether it may change them, and its parent, from the content of
 //! `/proc/PID/status`.
-ghost use Rattle.std.specs.Prelude.{ℕ, IfSome, IfNone, codes};
+ghost use Rattle.std.specs.Prelude.{codes};
 ghost use Rattle.virtiofs_host.specs.Lines.{lines, FirstSaid};
 ghost use Rattle.virtiofs_host.specs.Status.{SaysEffective, SaysParent, SaysCapabilities, MaySet, sets_uids, sets_gids};
 
 use crate::cut::cut;
 use crate::decimal::decimal;
+use crate::lines::{LineReader, first_said};
 
-/// The effective id that a line says, if it begins with that key.
-fn effective_of(line: &[u8], key: &[u8]) -> Option<u32>
-    ensures says { IfSome result (SaysEffective key.now line.now) }
-    ensures none { IfNone result ((id : ℕ) → ¬ SaysEffective key.now line.now id) }
-{
-    let (begin, rest) = cut(line, b'\t');
-    let (_, rest) = cut(rest?, b'\t');
-    let (effective, _) = cut(rest?, b'\t');
-    if begin != key {
-        return None;
-    }
-    decimal(effective)
+/// Lines that begin with a key and say the effective id.
+#[derive(Clone, Copy)]
+struct EffectiveReader {
+    key: &'static [u8],
 }
 
-/// The effective id that the first line says that begins with that key and says one.
-fn effective(text: &[u8], key: &[u8]) -> Option<u32>
-    ensures { FirstSaid (SaysEffective key.now) (lines text.now) result }
-{
-    let mut rest = Some(text);
-    while let Some(text) = rest {
-        let (line, after) = cut(text, b'\n');
-        let id = effective_of(line, key);
-        if id.is_some() {
-            return id;
+impl<'a> LineReader<'a> for EffectiveReader {
+    type Value = u32;
+
+    ghost says = { λ reader. SaysEffective reader.key.now };
+
+    fn of_line(&self, line: &'a [u8]) -> Option<u32> {
+        let (begin, rest) = cut(line, b'\t');
+        let (_, rest) = cut(rest?, b'\t');
+        let (effective, _) = cut(rest?, b'\t');
+        if begin != self.key {
+            return None;
         }
-        rest = after;
+        decimal(effective)
     }
-    None
 }
 
 /// The effective uid of a process, if the content of its `status` has it.
 pub fn effective_uid(text: &[u8]) -> Option<u32>
     ensures { FirstSaid (SaysEffective (codes "Uid:")) (lines text.now) result }
 {
-    effective(text, b"Uid:")
+    first_said(&EffectiveReader { key: b"Uid:" }, text)
 }
 
 /// The effective gid of a process, if the content of its `status` has it.
 pub fn effective_gid(text: &[u8]) -> Option<u32>
     ensures { FirstSaid (SaysEffective (codes "Gid:")) (lines text.now) result }
 {
-    effective(text, b"Gid:")
+    first_said(&EffectiveReader { key: b"Gid:" }, text)
 }
 
-/// The number of the parent, if a line says it.
-fn parent_of(line: &[u8]) -> Option<u32>
-    ensures says { IfSome result (SaysParent line.now) }
-    ensures none { IfNone result ((pid : ℕ) → ¬ SaysParent line.now pid) }
-{
-    let (begin, rest) = cut(line, b'\t');
-    let (parent, _) = cut(rest?, b'\t');
-    if begin != b"PPid:".as_slice() {
-        return None;
+/// Lines that say the number of the parent.
+struct ParentReader;
+
+impl<'a> LineReader<'a> for ParentReader {
+    type Value = u32;
+
+    ghost says = { λ _. SaysParent };
+
+    fn of_line(&self, line: &'a [u8]) -> Option<u32> {
+        let (begin, rest) = cut(line, b'\t');
+        let (parent, _) = cut(rest?, b'\t');
+        if begin != b"PPid:".as_slice() {
+            return None;
+        }
+        decimal(parent)
     }
-    decimal(parent)
 }
 
 /// The process that started a process, if the content of its `status` has it: 0 where that is outside
@@ -69,52 +67,32 @@ fn parent_of(line: &[u8]) -> Option<u32>
 pub fn parent(text: &[u8]) -> Option<u32>
     ensures { FirstSaid SaysParent (lines text.now) result }
 {
-    let mut rest = Some(text);
-    while let Some(text) = rest {
-        let (line, after) = cut(text, b'\n');
-        let pid = parent_of(line);
-        if pid.is_some() {
-            return pid;
-        }
-        rest = after;
-    }
-    None
+    first_said(&ParentReader, text)
 }
 
-/// The effective capabilities 4 to 7, as a digit, if a line says them.
-fn capabilities_of(line: &[u8]) -> Option<u32>
-    ensures says { IfSome result (SaysCapabilities line.now) }
-    ensures none { IfNone result ((digit : ℕ) → ¬ SaysCapabilities line.now digit) }
-{
-    let (begin, rest) = cut(line, b'\t');
-    let (mask, _) = cut(rest?, b'\t');
-    if begin != b"CapEff:".as_slice() || mask.len() < 2 {
-        return None;
-    }
-    char::from(mask[mask.len() - 2]).to_digit(16)
-}
+/// Lines that say the effective capabilities 4 to 7, as a digit.
+struct CapabilityReader;
 
-/// The same of the first line that says them.
-fn capabilities(text: &[u8]) -> Option<u32>
-    ensures { FirstSaid SaysCapabilities (lines text.now) result }
-{
-    let mut rest = Some(text);
-    while let Some(text) = rest {
-        let (line, after) = cut(text, b'\n');
-        let digit = capabilities_of(line);
-        if digit.is_some() {
-            return digit;
+impl<'a> LineReader<'a> for CapabilityReader {
+    type Value = u32;
+
+    ghost says = { λ _. SaysCapabilities };
+
+    fn of_line(&self, line: &'a [u8]) -> Option<u32> {
+        let (begin, rest) = cut(line, b'\t');
+        let (mask, _) = cut(rest?, b'\t');
+        if begin != b"CapEff:".as_slice() || mask.len() < 2 {
+            return None;
         }
-        rest = after;
+        char::from(mask[mask.len() - 2]).to_digit(16)
     }
-    None
 }
 
 /// Whether a process may act as any user: its `status` says that `CAP_SETUID` is effective.
 pub fn may_set_uids(text: &[u8]) -> bool
     ensures { MaySet sets_uids text.now result }
 {
-    match capabilities(text) {
+    match first_said(&CapabilityReader, text) {
         Some(digit) => digit / 8 % 2 == 1,
         None => false,
     }
@@ -124,7 +102,7 @@ pub fn may_set_uids(text: &[u8]) -> bool
 pub fn may_set_gids(text: &[u8]) -> bool
     ensures { MaySet sets_gids text.now result }
 {
-    match capabilities(text) {
+    match first_said(&CapabilityReader, text) {
         Some(digit) => digit / 4 % 2 == 1,
         None => false,
     }

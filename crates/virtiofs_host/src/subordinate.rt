@@ -1,11 +1,11 @@
 //! The ids that users may give to namespaces, as `/etc/subuid` and `/etc/subgid` list them.
-ghost use Rattle.std.specs.Prelude.{◌↔◌, Contains, IsTrue, IfOk, IfSome, IfNone};
+ghost use Rattle.std.specs.Prelude.{◌↔◌, Contains, IsTrue, IfOk};
 ghost use Rattle.virtiofs_host.specs.Lines.{lines, AllSaid};
 ghost use Rattle.virtiofs_host.specs.SubordinateIds.{GivesIds};
-ghost use Rattle.virtiofs_host.specs.declared.subordinate.SubIds.{SubIds};
 
 use crate::cut::cut;
 use crate::decimal::decimal;
+use crate::lines::{LineReader, all_said};
 use std::alloc::{AllocError, Allocator};
 
 /// Subordinate ids: the first, and how many.
@@ -17,24 +17,33 @@ pub struct SubIds {
     pub count: u32,
 }
 
-/// The ids that a line gives to the user with that name and number.
-fn ids_of(line: &[u8], name: &[u8], uid: u32) -> Option<SubIds>
-    ensures gives { IfSome result (GivesIds name.now uid line.now) }
-    ensures none { IfNone result ((ids : SubIds) → ¬ GivesIds name.now uid line.now ids) }
-{
-    let (owner, rest) = cut(line, b':');
-    let (first, rest) = cut(rest?, b':');
-    let (count, rest) = cut(rest?, b':');
-    if rest.is_some() {
-        return None;
+/// Lines that give ids to the user with a name and a number.
+#[derive(Clone, Copy)]
+struct IdsReader<'n> {
+    name: &'n [u8],
+    uid: u32,
+}
+
+impl<'a> LineReader<'a> for IdsReader<'_> {
+    type Value = SubIds;
+
+    ghost says = { λ reader. GivesIds reader.name.now reader.uid };
+
+    fn of_line(&self, line: &'a [u8]) -> Option<SubIds> {
+        let (owner, rest) = cut(line, b':');
+        let (first, rest) = cut(rest?, b':');
+        let (count, rest) = cut(rest?, b':');
+        if rest.is_some() {
+            return None;
+        }
+        if owner != self.name && decimal(owner) != Some(self.uid) {
+            return None;
+        }
+        Some(SubIds {
+            first: decimal(first)?,
+            count: decimal(count)?,
+        })
     }
-    if owner != name && decimal(owner) != Some(uid) {
-        return None;
-    }
-    Some(SubIds {
-        first: decimal(first)?,
-        count: decimal(count)?,
-    })
 }
 
 /// Whether the content of `/etc/subuid` or `/etc/subgid` has a carriage return, as before each line feed
@@ -66,14 +75,5 @@ pub fn read_subordinate<A: Allocator>(
     ensures { IfOk result (λ given.
         AllSaid (GivesIds name.now uid) (lines text.now) given.items) }
 {
-    let mut given = Vec::new(alloc);
-    let mut rest = Some(text);
-    while let Some(text) = rest {
-        let (line, after) = cut(text, b'\n');
-        if let Some(ids) = ids_of(line, name, uid) {
-            given.push(ids)?;
-        }
-        rest = after;
-    }
-    Ok(given)
+    all_said(alloc, &IdsReader { name, uid }, text)
 }

@@ -1,12 +1,11 @@
 //! The users of a host, as `/etc/passwd` lists them, and the names of users and of groups.
-ghost use Rattle.std.specs.Prelude.{◌↔◌, IsTrue, IfOk, IfSome, IfNone};
+ghost use Rattle.std.specs.Prelude.{◌↔◌, IsTrue, IfOk};
 ghost use Rattle.virtiofs_host.specs.Lines.{lines, AllSaid, FirstSaid};
 ghost use Rattle.virtiofs_host.specs.Users.{IsUserName, SaysUser, SaysName};
-ghost use Rattle.virtiofs_host.specs.declared.users.Named.{Named};
-ghost use Rattle.virtiofs_host.specs.declared.users.User.{User};
 
 use crate::cut::cut;
 use crate::decimal::decimal;
+use crate::lines::{LineReader, all_said, first_said};
 use std::alloc::{AllocError, Allocator};
 
 /// A user.
@@ -28,20 +27,28 @@ fn is_user_name(name: &[u8]) -> bool
     }
 }
 
-/// The user with that number, if the line says it.
-fn user_of(line: &[u8], uid: u32) -> Option<User<'_>>
-    ensures says { IfSome result (SaysUser uid line.now) }
-    ensures none { IfNone result ((user : User) → ¬ SaysUser uid line.now user) }
-{
-    let (name, rest) = cut(line, b':');
-    let (_, rest) = cut(rest?, b':');
-    let (number, rest) = cut(rest?, b':');
-    let (group, _) = cut(rest?, b':');
-    if !is_user_name(name) || decimal(number) != Some(uid) {
-        return None;
+/// Lines that say the user with a number.
+#[derive(Clone, Copy)]
+struct UserReader {
+    uid: u32,
+}
+
+impl<'a> LineReader<'a> for UserReader {
+    type Value = User<'a>;
+
+    ghost says = { λ reader. SaysUser reader.uid };
+
+    fn of_line(&self, line: &'a [u8]) -> Option<User<'a>> {
+        let (name, rest) = cut(line, b':');
+        let (_, rest) = cut(rest?, b':');
+        let (number, rest) = cut(rest?, b':');
+        let (group, _) = cut(rest?, b':');
+        if !is_user_name(name) || decimal(number) != Some(self.uid) {
+            return None;
+        }
+        let gid = decimal(group)?;
+        Some(User { name, gid })
     }
-    let gid = decimal(group)?;
-    Some(User { name, gid })
 }
 
 /// Finds the user with that number in the content of `/etc/passwd`: by the first line that is
@@ -49,15 +56,7 @@ fn user_of(line: &[u8], uid: u32) -> Option<User<'_>>
 pub fn find_user(text: &[u8], uid: u32) -> Option<User<'_>>
     ensures { FirstSaid (SaysUser uid) (lines text.now) result }
 {
-    let mut rest = Some(text);
-    while let Some(text) = rest {
-        let (line, after) = cut(text, b'\n');
-        if let Some(user) = user_of(line, uid) {
-            return Some(user);
-        }
-        rest = after;
-    }
-    None
+    first_said(&UserReader { uid }, text)
 }
 
 /// A user or a group.
@@ -69,19 +68,24 @@ pub struct Named<'a> {
     pub id: u32,
 }
 
-/// The user or the group that a line says.
-fn named_of(line: &[u8]) -> Option<Named<'_>>
-    ensures says { IfSome result (SaysName line.now) }
-    ensures none { IfNone result ((named : Named) → ¬ SaysName line.now named) }
-{
-    let (name, rest) = cut(line, b':');
-    let (_, rest) = cut(rest?, b':');
-    let (number, _) = cut(rest?, b':');
-    if !is_user_name(name) {
-        return None;
+/// Lines that say a user or a group.
+struct NameReader;
+
+impl<'a> LineReader<'a> for NameReader {
+    type Value = Named<'a>;
+
+    ghost says = { λ _. SaysName };
+
+    fn of_line(&self, line: &'a [u8]) -> Option<Named<'a>> {
+        let (name, rest) = cut(line, b':');
+        let (_, rest) = cut(rest?, b':');
+        let (number, _) = cut(rest?, b':');
+        if !is_user_name(name) {
+            return None;
+        }
+        let id = decimal(number)?;
+        Some(Named { name, id })
     }
-    let id = decimal(number)?;
-    Some(Named { name, id })
 }
 
 /// Reads the names of the users in the content of `/etc/passwd`, or of the groups in that of
@@ -94,14 +98,5 @@ fn named_of(line: &[u8]) -> Option<Named<'_>>
 pub fn read_names<A: Allocator>(alloc: A, text: &[u8]) -> Result<Vec<Named<'_>, A>, AllocError>
     ensures { IfOk result (λ all. AllSaid SaysName (lines text.now) all.items) }
 {
-    let mut all = Vec::new(alloc);
-    let mut rest = Some(text);
-    while let Some(text) = rest {
-        let (line, after) = cut(text, b'\n');
-        if let Some(named) = named_of(line) {
-            all.push(named)?;
-        }
-        rest = after;
-    }
-    Ok(all)
+    all_said(alloc, &NameReader, text)
 }

@@ -8,7 +8,7 @@ use Rattle.virtiofs_id_audit.specs.IdAudit.{Has, Hold}
 use Rattle.virtiofs_id_audit.specs.declared.spans.Span.{Span}
 use Rattle.virtiofs_map.specs.declared.idmap.UidMap.{UidMap}
 use Rattle.virtiofs_id_audit.specs.Outside.{MovesBy, MovesTo, HasIf, AreMoved}
-use Rattle.virtiofs_id_audit.specs.OutsideParts.{Moves, MovesAmong, AddsMoved, AddsSpan}
+use Rattle.virtiofs_id_audit.specs.OutsideParts.{Moves, MovesAmong, AddsMoved}
 use Rattle.virtiofs_id_audit.specs.declared.outside.Way.{Way}
 use Rattle.virtiofs_id_audit.specs.declared.outside.Way.TheVariants.{Inwards, Outwards}
 use Rattle.virtiofs_id_audit.proofs.HeldLemmas.{hold_push, push_hold, hold_none}
@@ -140,48 +140,37 @@ among_moves way ranges id moved some = grind arith
 stays_moves : (way : Way) (ranges : List UidMap) (id moved : ℕ) → ranges ≡ [] → (id ≡ moved) ↔ MovesTo way ranges id moved
 stays_moves way ranges id moved none = grind arith
 
-pub adds_span : (before after : List Span) (way : Way) (ranges : List UidMap) (span : Span) → ranges ≢ []
-    → AddsMoved before way ranges span after → AddsSpan before way ranges span after
-adds_span before after way ranges span some adds = record {
-  each = λ moved. (
-    (λ held. elim ((adds.each moved).0 held) [
-      | inl old ↦ inl old
-      | inr (id, has, moves) ↦ inr (id, has, (among_moves way ranges id moved some).0 moves)
-    ]),
-    (λ any. (adds.each moved).1 (search (rules, among_moves))),
-  );
-}
-
-pub adds_itself : (before : List Span) (way : Way) (ranges : List UidMap) (span : Span) → ranges ≡ []
-    → AddsSpan before way ranges span (before ++ span ∷ [])
-adds_itself before way ranges span none = record {
-  each = λ moved. (
-    (λ held. elim (hold_push before span moved held) [
-      | inl old ↦ inl old
-      | inr has ↦ inr (moved, has, (stays_moves way ranges moved moved none).0 refl)
-    ]),
-    (λ any. search (rules, push_hold, stays_moves)),
-  );
-}
-
 -- ---- all spans
+
+pub moved_unmoved : (way : Way) (ranges : List UidMap) (spans all : List Span) → ranges ≡ [] → all ≡ spans
+    → AreMoved way ranges spans all
+moved_unmoved way ranges spans all none same = rw same (record {
+  each = λ moved. (
+    λ held. (moved, held, (stays_moves way ranges moved moved none).0 refl),
+    λ (id, held, moves). (let is : id ≡ moved = (stays_moves way ranges id moved none).1 moves in rw is at held),
+  );
+})
 
 pub moved_no_span : (way : Way) (ranges : List UidMap) (spans : List Span) → AreMoved way ranges (take 0 spans) []
 moved_no_span way ranges spans = search (rules, hold_none)
 
 pub moved_one_more : (way : Way) (ranges : List UidMap) (spans all more : List Span) (i : ℕ) (d : Span)
-    → i < length spans → AreMoved way ranges (take i spans) all
-    → AddsSpan all way ranges (get_or spans i d) more → AreMoved way ranges (take (i + 1) spans) more
-moved_one_more way ranges spans all more i d below so_far adds = rw (take_more spans i d below) (record {
+    → i < length spans → ranges ≢ [] → AreMoved way ranges (take i spans) all
+    → AddsMoved all way ranges (get_or spans i d) more → AreMoved way ranges (take (i + 1) spans) more
+moved_one_more way ranges spans all more i d below some so_far adds = rw (take_more spans i d below) (record {
   each = λ moved. (
     (λ held. elim ((adds.each moved).0 held) [
       | inl old ↦ (let (id, has, moves) = (so_far.each moved).0 old in
           (id, push_hold (take i spans) (get_or spans i d) id (inl has), moves))
-      | inr (id, has, moves) ↦ (id, push_hold (take i spans) (get_or spans i d) id (inr has), moves)
+      | inr (id, has, moves) ↦ (
+        id,
+        push_hold (take i spans) (get_or spans i d) id (inr has),
+        (among_moves way ranges id moved some).0 moves,
+      )
     ]),
     (λ (id, held, moves). (adds.each moved).1 (elim (hold_push (take i spans) (get_or spans i d) id held) [
       | inl old ↦ inl ((so_far.each moved).1 (id, old, moves))
-      | inr has ↦ inr (id, has, moves)
+      | inr has ↦ inr (id, has, (among_moves way ranges id moved some).1 moves)
     ])),
   );
 })

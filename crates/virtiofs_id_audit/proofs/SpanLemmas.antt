@@ -1,11 +1,12 @@
 -- The least id of the guest that becomes an id in one of some spans.
-use Rattle.std.proofs.Common.{◌≡◌, inl, inr, ℕ, ◌+◌, ◌-◌, ◌<◌, ◌≤◌, max, true, false, ltb, List, length, get_or, Some}
+use Rattle.std.proofs.Common.{◌≡◌, inl, inr, ℕ, ◌+◌, ◌-◌, ◌<◌, ◌≤◌, true, false, ltb, List, length, get_or, Some}
 use Rattle.std.proofs.Common.{None, sym, ◌∙◌, arith, rules}
 use Rattle.std.specs.List.Sorted.{IsPartitionPoint}
 use Rattle.std.proofs.lemmas.Bool.{cases_lt}
 use Rattle.std.proofs.lemmas.Bool.Decides.{nat_tests}
 use Rattle.std.proofs.lemmas.List.{get_or_default}
 use Rattle.std.proofs.lemmas.Option.{same_Some}
+use Rattle.virtiofs_id_audit.specs.ExtentParts.{IsFirstFrom}
 use Rattle.virtiofs_id_audit.specs.IdAudit.{IsLeastIfAny, GoesInto, Between}
 use Rattle.virtiofs_id_audit.specs.IdAuditParts.{Hold, AreInOrder, HasImage, ComesInto}
 use Rattle.virtiofs_id_audit.specs.declared.spans.Span.{Span}
@@ -31,31 +32,22 @@ held_after spans first at id d order splits from (span, (k, inside, here), has) 
     let here' : get_or spans k d ≡ span = get_or_default spans k d span inside ∙ here in
     search (rules, cases_lt, nat_tests)
 
--- no span is left there
-pub least-none : (spans : List Span) (first last at : ℕ) → AreInOrder spans → SplitsAt spans first at
-    → length spans ≤ at → IsLeastIfAny (λ id. Between first last id × Hold spans id) None
-least-none spans first last at order splits out id ((from, to), (span, listed, has)) = search (rules, held_after)
-
 -- the span there has an id from first on, unless it begins above last
 pub held_at : (spans : List Span) (first at : ℕ) (d : Span) → AreInOrder spans → SplitsAt spans first at → at < length spans
     → ((get_or spans at d).first ≤ (get_or spans at d).last) × (first ≤ (get_or spans at d).last)
 held_at spans first at d order splits inside = search (rules, nat_tests)
 
--- the greater of first and the first id of the span there, unless it is above last
-pub least-there : (spans : List Span) (first last at least : ℕ) (span : Span) → AreInOrder spans
-    → SplitsAt spans first at → at < length spans → get_or spans at span ≡ span → least ≡ max span.first first
-    → (least ≤ last → IsLeastIfAny (λ id. Between first last id × Hold spans id) (Some least))
-    × (last < least → IsLeastIfAny (λ id. Between first last id × Hold spans id) None)
-least-there spans first last at least span order splits inside here is =
-    let ends = rw here at (held_at spans first at span order splits inside) in
-    let low : (id : ℕ) → first ≤ id → Hold spans id → least ≤ id = λ id from held.
-    omega (arith, rw here at (held_after spans first at id span order splits from held).1) in (
-      λ within. record {
-        is_bad = ((omega arith, within), (span, (at, inside, here), (omega arith, omega (arith, ends))));
-        none_before = λ id before ((from, to), held). omega (arith, low id from held);
-      },
-      λ above id ((from, to), held). omega (arith, low id from held),
-    )
+-- so it is the first one that ends there or later
+pub first_there : (spans : List Span) (id at : ℕ) (span : Span) → AreInOrder spans → SplitsAt spans id at
+    → at < length spans → get_or spans at span ≡ span → IsFirstFrom spans id span
+first_there spans id at span order splits inside here =
+    let ends = rw here at (held_at spans id at span order splits inside) in
+    record {
+      listed = (at, inside, here);
+      some = ends.0;
+      ends = ends.1;
+      least = λ n from held. rw here at (held_after spans id at n span order splits from held).1;
+    }
 
 -- ---- the least number of a piece
 

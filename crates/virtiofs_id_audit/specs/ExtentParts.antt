@@ -1,10 +1,11 @@
 -- What the parts of finding ids of the guest say. Only private functions cite these definitions.
-use Rattle.std.specs.Prelude.{◌≡◌, ◌⊎◌, ℕ, ◌-◌, ◌<◌, ◌≤◌, true, false, List, Contains, Some}
-use Rattle.virtiofs_id_audit.specs.IdAudit.{GoesInto, IsAstray}
+use Rattle.std.specs.Prelude.{◌≡◌, ◌⊎◌, ◌↔◌, ℕ, ◌-◌, ◌<◌, ◌≤◌, Bool, true, false, List, Contains, Some}
+use Rattle.virtiofs_id_audit.specs.IdAudit.{GoesInto, IsAstray, Hold}
 use Rattle.virtiofs_id_audit.specs.Mending.{IsBad}
 use Rattle.virtiofs_id_audit.specs.declared.extents.runs.Run.{Run}
 use Rattle.virtiofs_id_audit.specs.declared.extents.runs.Sought.{Sought}
 use Rattle.virtiofs_id_audit.specs.declared.extents.runs.Sought.TheVariants.{Into, OnlyAstray, Bad}
+use Rattle.virtiofs_id_audit.specs.declared.spans.Span.{Span}
 use Rattle.virtiofs_map.specs.Mapping.{Becomes}
 use Rattle.virtiofs_map.specs.Pieces.{value_in}
 use Rattle.virtiofs_map.specs.declared.cmdline.IdMap.{IdMap}
@@ -17,12 +18,23 @@ IsSought Into specs hosts guest = GoesInto specs hosts guest
 IsSought OnlyAstray specs hosts guest = IsAstray specs guest × (¬ GoesInto specs hosts guest)
 IsSought Bad specs hosts guest = IsBad specs hosts guest
 
+-- those that are bad, or those that are astray alone
+abbrev pub of_bad : Bool → Sought
+of_bad true = Bad
+of_bad false = OnlyAstray
+
 -- the numbers of the run, from first on and not above last, are all such, or none of them is
 pub record IsRun (such : ℕ → Type 0) (first last : ℕ) (run : Run) : Type 0 where
   pub from : first ≤ run.last
   pub to : run.last ≤ last
-  pub all : run.all ≡ true → (n : ℕ) → first ≤ n → n ≤ run.last → such n
-  pub none : run.all ≡ false → (n : ℕ) → first ≤ n → n ≤ run.last → ¬ such n
+  pub each : (n : ℕ) → first ≤ n → n ≤ run.last → (run.all ≡ true) ↔ such n
+
+-- the first of the spans that end at the id or after it: those before it have no id from there on
+pub record IsFirstFrom (spans : List Span) (id : ℕ) (span : Span) : Type 0 where
+  pub listed : Contains spans span
+  pub some : span.first ≤ span.last
+  pub ends : id ≤ span.last
+  pub least : (n : ℕ) → id ≤ n → Hold spans n → span.first ≤ n
 
 -- where an id of the host becomes an id of the guest that is none of the starts, the one before it becomes the one before
 -- that

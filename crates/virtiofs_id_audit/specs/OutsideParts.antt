@@ -5,7 +5,7 @@ use Rattle.virtiofs_map.specs.Mapping.{InRange}
 use Rattle.virtiofs_id_audit.specs.declared.spans.Span.{Span}
 use Rattle.virtiofs_map.specs.declared.idmap.UidMap.{UidMap}
 use Rattle.virtiofs_id_audit.specs.declared.outside.Way.{Way}
-use Rattle.virtiofs_id_audit.specs.Outside.{MovesTo, MovesBy}
+use Rattle.virtiofs_id_audit.specs.Outside.{MovesBy}
 
 -- of `count` ids from `from` on, the id is moved to the one as far above `to`
 pub record Moves (from to count id moved : ℕ) : Type 0 where
@@ -23,9 +23,3 @@ pub record AddsMoved (before : List Span) (way : Way) (ranges : List UidMap) (sp
     0 where
   pub each : (moved : ℕ) → Hold after moved
       ↔ (Hold before moved ⊎ ((id : ℕ) × Has span id × MovesAmong way ranges id moved))
-
--- the spans have what those before had, and what the ids of the span are then
-pub record AddsSpan (before : List Span) (way : Way) (ranges : List UidMap) (span : Span) (after : List Span) : Type
-    0 where
-  pub each : (moved : ℕ) → Hold after moved
-      ↔ (Hold before moved ⊎ ((id : ℕ) × Has span id × MovesTo way ranges id moved))

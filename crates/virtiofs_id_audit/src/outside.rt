@@ -2,7 +2,7 @@
 ghost use Rattle.std.specs.Prelude.{◌↔◌, ℕ, ◌≤◌, IfOk, IfSome, OnOk, MatchOption};
 ghost use Rattle.virtiofs_id_audit.specs.IdAudit.{Has};
 ghost use Rattle.virtiofs_id_audit.specs.Outside.{MovesBy, HasIf, AreMoved};
-ghost use Rattle.virtiofs_id_audit.specs.OutsideParts.{Moves, AddsMoved, AddsSpan};
+ghost use Rattle.virtiofs_id_audit.specs.OutsideParts.{Moves, AddsMoved};
 
 use crate::spans::Span;
 use std::alloc::{AllocError, Allocator};
@@ -82,23 +82,6 @@ fn push_moved<A: Allocator>(
     Ok(())
 }
 
-/// Adds what the ids of the span are, moved by the ranges; where there are none, the span itself.
-fn push_span<A: Allocator>(
-    spans: &mut Vec<Span, A>,
-    way: Way,
-    ranges: &[UidMap],
-    span: Span,
-) -> Result<(), AllocError>
-    ensures { OnOk result (AddsSpan spans.old.items way ranges.now span spans.new.items) }
-{
-    if ranges.is_empty() {
-        spans.push(span)?;
-        return Ok(());
-    }
-    push_moved(spans, way, ranges, span)?;
-    Ok(())
-}
-
 /// What the ids of the spans are, moved by the ranges of a namespace.
 pub fn moved_all<A: Allocator + Copy>(
     alloc: A,
@@ -108,9 +91,12 @@ pub fn moved_all<A: Allocator + Copy>(
 ) -> Result<Vec<Span, A>, AllocError>
     ensures { IfOk result (λ all. AreMoved way ranges.now spans.now all.items) }
 {
+    if ranges.is_empty() {
+        return Ok(spans.to_vec(alloc)?);
+    }
     let mut all = Vec::new(alloc);
     for span in spans {
-        push_span(&mut all, way, ranges, *span)?;
+        push_moved(&mut all, way, ranges, *span)?;
     }
     Ok(all)
 }

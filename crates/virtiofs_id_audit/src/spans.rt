@@ -1,5 +1,6 @@
 //! Ids of the host in spans, and the least id of the guest that becomes one of them.
-ghost use Rattle.std.specs.Prelude.{◌≡◌, ◌+◌, ◌≤◌, Some};
+ghost use Rattle.std.specs.Prelude.{◌≡◌, ◌+◌, ◌≤◌, ℕ, Some, MatchOption};
+ghost use Rattle.virtiofs_id_audit.specs.ExtentParts.{IsFirstFrom};
 ghost use Rattle.virtiofs_id_audit.specs.IdAudit.{IsLeastIfAny, GoesInto, Between};
 ghost use Rattle.virtiofs_id_audit.specs.IdAuditParts.{Hold, AreInOrder, HasImage, ComesInto};
 ghost use Rattle.virtiofs_map.specs.Build.{Accepted};
@@ -19,13 +20,25 @@ pub struct Span {
     pub last: u32,
 }
 
+/// The first of the spans that end at the id or after it.
+pub(crate) fn first_from(spans: &[Span], id: u32) -> Option<Span>
+    requires { AreInOrder spans.now }
+    ensures { MatchOption result ((n : ℕ) → id ≤ n → ¬ Hold spans.now n)
+        (IsFirstFrom spans.now id) }
+{
+    let at = spans.partition_point(|span| span.last < id);
+    let Some(span) = spans.get(at) else {
+        return None;
+    };
+    Some(*span)
+}
+
 /// The least id from `first` to `last` that one of the spans has.
 fn least_between(spans: &[Span], first: u32, last: u32) -> Option<u32>
     requires { AreInOrder spans.now }
     ensures { IsLeastIfAny (λ id. Between first last id × Hold spans.now id) result }
 {
-    let at = spans.partition_point(|span| span.last < first);
-    let Some(span) = spans.get(at) else {
+    let Some(span) = first_from(spans, first) else {
         return None;
     };
     let least = span.first.max(first);

@@ -1,7 +1,8 @@
 -- What a map makes of a name, by the prefix that is added to it or cut off it.
 use Rattle.std.proofs.Common.{◌≡◌, get_or, ◌≢◌, ℕ, ◌<◌, Bool, true, false, List, [], ◌∷◌, ◌++◌, length, drop, Option}
-use Rattle.std.proofs.Common.{Some, None, ◌⊎◌, inl, inr, refl, sym, ◌∙◌, arith, rules}
+use Rattle.std.proofs.Common.{Some, None, ◌⊎◌, ◌↔◌, inl, inr, refl, sym, ◌∙◌, arith, rules}
 use Rattle.std.specs.List.{All, find}
+use Rattle.std.specs.Bool.{IsTrue}
 use Rattle.std.specs.Option.{option_map_or, option_and_then, is_none}
 use Rattle.std.proofs.lemmas.Bool.{and_parts, cond_both}
 use Rattle.std.proofs.lemmas.List.{append-nil}
@@ -80,20 +81,26 @@ cut_begins rules host cut e =
       | inr w ↦ rw w.1 (and_parts by.rule.server (begins by.rule.prepend host) fit).1
     ]
 
-hidden_by : (o : Option MappingRule) (host : List ℕ)
-    → (option_map_or (λ rule. host_answer_by rule.kind rule.prepend host) o IsUndecided ≡ IsHidden
-    → option_map_or (λ rule. is_none (added_prefix_of rule)) o false ≡ true)
-    × (option_map_or (λ rule. is_none (added_prefix_of rule)) o false ≡ true
-    → option_map_or (λ rule. host_answer_by rule.kind rule.prepend host) o IsUndecided ≡ IsHidden)
-hidden_by o host = grind arith
+-- host names that the same rule decides are hidden or not alike
+hidden_by : (o : Option MappingRule) (host other : List ℕ)
+    → option_map_or (λ rule. host_answer_by rule.kind rule.prepend host) o IsUndecided ≡ IsHidden
+    → option_map_or (λ rule. host_answer_by rule.kind rule.prepend other) o IsUndecided ≡ IsHidden
+hidden_by o host other e = grind arith
 
-pub hidden_test : (rules : List MappingRule) (host : List ℕ) → host_answer rules host ≡ IsHidden
-    → is_hidden rules host ≡ true
-hidden_test rules host = (hidden_by (deciding Server rules host) host).0
+pub hidden_same : (rules : List MappingRule) (host other : List ℕ)
+    → deciding Server rules other ≡ deciding Server rules host
+    → host_answer rules host ≡ IsHidden → host_answer rules other ≡ IsHidden
+hidden_same rules host other same e = rw same (hidden_by (deciding Server rules host) host other e)
 
-pub test_hidden : (rules : List MappingRule) (host : List ℕ) → is_hidden rules host ≡ true
-    → host_answer rules host ≡ IsHidden
-test_hidden rules host = (hidden_by (deciding Server rules host) host).1
+-- what the code tests of that
+hidden_test : (o : Option MappingRule) (host : List ℕ)
+    → (option_map_or (λ rule. is_none (added_prefix_of rule)) o false ≡ true)
+    ↔ (option_map_or (λ rule. host_answer_by rule.kind rule.prepend host) o IsUndecided ≡ IsHidden)
+hidden_test o host = grind arith
+
+pub hidden_iff : (rules : List MappingRule) (host : List ℕ) (answer : Bool) → answer ≡ is_hidden rules host
+    → IsTrue answer ↔ (host_answer rules host ≡ IsHidden)
+hidden_iff rules host answer e = rw e (hidden_test (deciding Server rules host) host)
 
 -- ---- the list of one name
 

@@ -1,25 +1,29 @@
 -- Names that fare alike: the longest of some patterns that begins a name is begun by the same patterns as the name.
-use Rattle.std.proofs.Common.{◌≡◌, zero, suc, ◌≢◌, ℕ, ◌+◌, ◌<◌, ◌≤◌, Bool, true, false, ◌&&◌, cond, List, [], ◌∷◌}
-use Rattle.std.proofs.Common.{◌++◌, map, length, drop, Option, Some, None, ◌⊎◌, inl, inr, refl, sym, ap, ◌∙◌, subst}
-use Rattle.std.proofs.Common.{arith, flat_map, find, option_and_then, eq-eqb, rules}
-use Rattle.std.specs.List.{AllByRecursion, cons_option, range_with_len}
-use Rattle.std.specs.Option.{option_map_or}
-use Rattle.std.proofs.lemmas.Bool.{and_parts, and_from, cond_both, cases_Bool, cases_lt, false≢true}
-use Rattle.virtiofs_map.specs.AuditParts.{added_prefix, rests, guest_names, wholes}
-use Rattle.virtiofs_map.specs.AuditParts.{live_wholes, host_names, is_cut, cuts, one_byte, one_byte_names}
-use Rattle.virtiofs_map.specs.GatheredParts.{added_prefix_of, host_pattern}
-use Rattle.virtiofs_map.specs.FirstRule.{acts}
+use Rattle.std.proofs.Common.{◌≡◌, ◌≢◌, ℕ, ◌<◌, ◌≤◌, Bool, true, false, ◌&&◌, List, [], ◌∷◌, ◌++◌, length, drop, take}
+use Rattle.std.proofs.Common.{Contains, Option, Some, None, ◌⊎◌, inl, inr, refl, sym, ap, ◌∙◌, subst, arith, find}
+use Rattle.std.proofs.Common.{option_and_then, eq-eqb, rules, filter_map}
+use Rattle.std.specs.List.{cons_option}
+use Rattle.std.proofs.lemmas.Bool.{and_parts, and_from, cases_Bool, cases_lt, false≢true}
+use Rattle.std.proofs.lemmas.List.{drop_at}
+use Rattle.std.proofs.lemmas.List.Elements.{All-head, All-take, Contains-append_right}
+use Rattle.std.proofs.Math.Seq.{take-append_seam}
+use Rattle.virtiofs_map.specs.AuditParts.{added_prefix, IsCut, parts, LedTo, IsGuestName}
+use Rattle.virtiofs_map.specs.AuditParts.{IsHostName, IsOneByte, IsTried}
+use Rattle.virtiofs_map.specs.FirstRule.{acts, pattern}
+use Rattle.virtiofs_map.specs.GatheredParts.{added_prefix_of, host_pattern, part_of}
+use Rattle.virtiofs_map.specs.MapRule.{IsName}
 use Rattle.virtiofs_map.specs.Names.{begins, fits, deciding}
 use Rattle.virtiofs_map.specs.Rule.{MappingRule}
+use Rattle.virtiofs_map.specs.declared.audit.gathered.Part.TheVariants.{Key, Added, Host}
 use Rattle.virtiofs_map.specs.declared.xattrmap.scopes.Side.{Side}
 use Rattle.virtiofs_map.specs.declared.xattrmap.scopes.Side.TheVariants.{Client, Server}
 use Rattle.virtiofs_map.proofs.AuditAddedLemmas.{adds_by}
 use Rattle.virtiofs_map.proofs.BeginsLemmas.{begins_itself, begins_trans, begins_split, begins_from, begins-append}
 use Rattle.virtiofs_map.proofs.BeginsLemmas.{deciding_fits, deciding-find}
 
--- ---- added prefixes of a name
+-- ---- fronts of a name
 
--- of two added prefixes of a name the shorter begins the longer
+-- of two fronts of a name the shorter begins the longer
 pub shorter_begins : (p q n : List ℕ) → begins p n ≡ true → begins q n ≡ true → length p ≤ length q → begins p q ≡ true
 shorter_begins [] q n b d l = refl
 shorter_begins (x ∷ p) [] n b d l = absurd (omega arith)
@@ -30,130 +34,181 @@ pub begins-append_both : (a p n : List ℕ) → begins (a ++ p) (a ++ n) ≡ beg
 begins-append_both [] p n = refl
 begins-append_both (x ∷ a) p n = ap (λ b. b && begins (a ++ p) (a ++ n)) (eq-eqb x x refl) ∙ begins-append_both a p n
 
-pub same_tests : (x y : Bool) → (x ≡ true → y ≡ true) → (y ≡ true → x ≡ true) → x ≡ y
+same_tests : (x y : Bool) → (x ≡ true → y ≡ true) → (y ≡ true → x ≡ true) → x ≡ y
 same_tests x y f g = grind arith
 
--- a pattern that is no longer than a, or that a does not begin, begins a name after a only where it begins a
+-- a pattern that a does not begin begins a name after a only where it begins a
 begins_within : (a p n : List ℕ) → begins a p ≡ false → begins p (a ++ n) ≡ true → begins p a ≡ true
 begins_within a p n fails b = search (rules, cases_lt, false≢true, shorter_begins, begins-append)
 
--- ---- members of a list
+pub front_is_name : (front name : List ℕ) → begins front name ≡ true → IsName name → IsName front
+front_is_name front name b is =
+    subst IsName (ap (take (length front)) (begins_split front name b) ∙ take-append_seam front (drop
+    (length front) name))
+    (All-take (λ byte. (0 < byte) × (byte < 256)) (length front) name is)
 
-abbrev pub Member : {X : Type 0} → X → List X → Type 0
-Member x [] = ⊥
-Member x (y ∷ ys) = (x ≡ y) ⊎ Member x ys
+-- ---- elements of a list
 
-pub all_member : {X : Type 0} (P : X → Type 0) (x : X) (xs : List X) → AllByRecursion P xs → Member x xs → P x
-all_member P x [] all m = absurd m
-all_member P x (y ∷ ys) all (inl e) = subst P (sym e) all.0
-all_member P x (y ∷ ys) all (inr m) = all_member P x ys all.1 m
+pub contains_none : {X : Type 0} (x : X) → ¬ Contains [] x
+contains_none x (k, l, e) = omega arith
 
-all_weaker : {X : Type 0} (P Q : X → Type 0) → ((x : X) → P x → Q x) → (xs : List X) → AllByRecursion P xs
-    → AllByRecursion Q xs
-all_weaker P Q f [] all = tt
-all_weaker P Q f (x ∷ xs) all = (f x all.0, all_weaker P Q f xs all.1)
+pub contains_cases : {X : Type 0} (y : X) (ys : List X) (x : X) → Contains (y ∷ ys) x → (y ≡ x) ⊎ Contains ys x
+contains_cases y ys x c = grind arith
 
-all_first : {X : Type 0} (P : X → Type 0) (xs ys : List X) → AllByRecursion P (xs ++ ys) → AllByRecursion P xs
-all_first P [] ys all = tt
-all_first P (x ∷ xs) ys all = (all.0, all_first P xs ys all.1)
+pub contains_first : {X : Type 0} (x : X) (xs : List X) → Contains (x ∷ xs) x
+contains_first x xs = (0, omega arith, refl)
 
-all_second : {X : Type 0} (P : X → Type 0) (xs ys : List X) → AllByRecursion P (xs ++ ys) → AllByRecursion P ys
-all_second P [] ys all = all
-all_second P (x ∷ xs) ys all = all_second P xs ys all.1
+pub contains_later : {X : Type 0} (y : X) (xs : List X) (x : X) → Contains xs x → Contains (y ∷ xs) x
+contains_later y xs x c = Contains-append_right (y ∷ []) xs x c
 
--- ---- the longest member that begins a name
+contains_behind : {X : Type 0} (o : Option X) (xs : List X) (x : X) → Contains xs x → Contains (cons_option o xs) x
+contains_behind None xs x c = c
+contains_behind (Some y) xs x c = contains_later y xs x c
+
+-- that part of a rule is among those of all rules
+pub part_among : (f : MappingRule → Option (List ℕ)) (rules : List MappingRule) (rule : MappingRule) (name : List ℕ)
+    → Contains rules rule → f rule ≡ Some name → Contains (filter_map f rules) name
+part_among f [] rule name c e = absurd (contains_none rule c)
+part_among f (one ∷ more) rule name c e =
+    elim (contains_cases one more rule c) [
+      | inl same ↦ rw (ap f same ∙ e) (contains_first name (filter_map f more))
+      | inr later ↦ contains_behind (f one) (filter_map f more) name (part_among f more rule name later e)
+    ]
+
+found_among : {X : Type 0} (p : X → Bool) (xs : List X) (x : X) → find p xs ≡ Some x → Contains xs x
+found_among p [] x e = absurd (cc)
+found_among p (y ∷ ys) x e = grind (arith, found_among p ys x, contains_first, contains_later)
+
+-- the rule that decides a name is one of them, and fits it
+pub decides_among : (side : Side) (rules : List MappingRule) (name : List ℕ) (rule : MappingRule)
+    → deciding side rules name ≡ Some rule → Contains rules rule × (fits side name rule ≡ true)
+decides_among side rules name rule e = (
+  found_among (fits side name) rules rule (sym (deciding-find side rules name)
+      ∙ e),
+  deciding_fits side rules name rule (sym e),
+)
+
+fits_acts : (side : Side) (name : List ℕ) (rule : MappingRule) → fits side name rule ≡ true
+    → (acts side rule ≡ true) × (begins (pattern side rule) name ≡ true)
+fits_acts side name rule e = grind (arith, and_parts)
+
+-- what is put before a name, or taken off it, is among what the rules have of it
+pub added_among : (side : Side) (rules : List MappingRule) (name added : List ℕ)
+    → added_prefix side rules name ≡ Some added → Contains (parts (Added side) rules) added
+added_among side rules name added e =
+    let by = adds_by (deciding side rules name) added e in
+    let (among, fit) = decides_among side rules name by.rule by.decides in
+    let on = (fits_acts side name by.rule fit).0 in
+    part_among (part_of (Added side)) rules by.rule added among (rw on by.puts)
+
+-- ---- the longest of some patterns that begins a name
 
 -- t begins c, if it begins the name
 abbrev pub Meets : List ℕ → List ℕ → List ℕ → Type 0
 Meets name c t = begins t name ≡ true → begins t c ≡ true
 
--- c stands for the name: it is among those that are tried, begins the name, and is begun by each pattern that begins
--- the name
-pub record Stands (patterns tried : List (List ℕ)) (name c : List ℕ) : Type 0 where
+-- c is a front of the name that is tried, and is begun by each pattern that begins the name
+pub record Stands (patterns tried : List ℕ → Type 0) (name c : List ℕ) : Type 0 where
   pub not_empty : c ≢ []
   pub is_front : begins c name ≡ true
-  pub met : AllByRecursion (Meets name c) patterns
-  pub is_tried : Member c tried
+  pub met : (t : List ℕ) → patterns t → Meets name c t
+  pub is_tried : tried c
 
-pub record Stood (patterns tried : List (List ℕ)) (name : List ℕ) : Type 0 where
+pub record Stood (patterns tried : List ℕ → Type 0) (name : List ℕ) : Type 0 where
   pub by : List ℕ
   pub stands : Stands patterns tried name by
 
-one_more : (t : List ℕ) (patterns tried : List (List ℕ)) (name : List ℕ) → Stood patterns tried name
-    → Stood (t ∷ patterns) (t ∷ tried) name
-one_more t patterns tried name stood =
-    elim (cases_Bool (begins t name)) [
-      | inr fails ↦ keep (λ b. absurd (false≢true (sym fails ∙ b)))
-      | inl holds ↦
-          elim (cases_lt (length stood.by) (length t)) [
-            | inr l ↦ keep (λ b. shorter_begins t stood.by name b stood.stands.is_front l)
-            | inl l ↦ take holds l
-          ]
-    ] where
-      keep : Meets name stood.by t → Stood (t ∷ patterns) (t ∷ tried) name
-      keep met = record {
-        by = stood.by;
-        stands = grind arith;
-      }
+abbrev pub nothing : List ℕ → Type 0
+nothing name = ⊥
 
-      take : begins t name ≡ true → length stood.by < length t → Stood (t ∷ patterns) (t ∷ tried) name
-      take holds l = record {
-        by = t;
-        stands = grind (arith, shorter_begins, all_weaker, Meets, begins_trans);
-      }
+stands_fewer : {patterns fewer tried : List ℕ → Type 0} {name c : List ℕ} → Stands patterns tried name c
+    → ((t : List ℕ) → fewer t → Meets name c t) → Stands fewer tried name c
+stands_fewer stands met = search rules
 
-in_range : (a n x : ℕ) → a ≤ x → x < a + n → Member (one_byte x) (map one_byte (range_with_len a n))
-in_range a zero x l u = absurd (omega arith)
-in_range a (suc n) x l u =
-    elim (cases_lt a x) [
-      | inl more ↦ inr (in_range (a + 1) n x (omega arith) (omega arith))
-      | inr same ↦ inl (let e : x ≡ a = omega arith in ap one_byte e)
+stood_fewer : {patterns fewer tried : List ℕ → Type 0} {name : List ℕ} → Stood patterns tried name
+    → ((t : List ℕ) → fewer t → patterns t) → Stood fewer tried name
+stood_fewer stood cover = grind arith
+
+-- what is no shorter is begun by them too
+longer_met : {patterns tried : List ℕ → Type 0} {name : List ℕ} (c t : List ℕ) (stood : Stood patterns tried name)
+    → begins c name ≡ true → length stood.by ≤ length c → patterns t → Meets name c t
+longer_met {name = name} c t stood front l one b =
+    begins_trans t stood.by c (stood.stands.met t one b)
+    (shorter_begins stood.by c name stood.stands.is_front front l)
+
+stood_both : {ones others all tried : List ℕ → Type 0} {name : List ℕ} → Stood ones tried name
+    → Stood others tried name → ((t : List ℕ) → all t → ones t ⊎ others t) → Stood all tried name
+stood_both one other cover =
+    elim (cases_lt (length one.by) (length other.by)) [
+      | inl less ↦ record {
+        by = other.by;
+        stands = stands_fewer other.stands (λ t is. elim (cover t is) [
+          | inl a ↦ longer_met other.by t one other.stands.is_front (omega arith) a
+          | inr b ↦ other.stands.met t b
+        ]);
+      }
+      | inr more ↦ record {
+        by = one.by;
+        stands = stands_fewer one.stands (λ t is. elim (cover t is) [
+          | inl a ↦ one.stands.met t a
+          | inr b ↦ longer_met one.by t other one.stands.is_front more b
+        ]);
+      }
     ]
 
-one_byte_tried : (x : ℕ) → 0 < x → x < 256 → Member (one_byte x) one_byte_names
-unfolding one_byte_names
-one_byte_tried x l u = in_range 1 255 x (omega arith) (omega arith)
+-- of one pattern that is tried
+stood_one : {patterns tried : List ℕ → Type 0} {name : List ℕ} (only : List ℕ) → Stood nothing tried name
+    → tried only → ((t : List ℕ) → patterns t → t ≡ only) → Stood patterns tried name
+stood_one [] other is one = record { by = other.by; stands = grind arith }
+stood_one {name = name} (x ∷ xs) other is one =
+    elim (cases_Bool (begins (x ∷ xs) name)) [
+      | inl front ↦ record { by = x ∷ xs; stands = grind (arith, begins_itself) }
+      | inr fails ↦ record { by = other.by; stands = grind (arith, false≢true) }
+    ]
 
--- a name that is not empty has one that stands for it
-pub stood : (patterns : List (List ℕ)) (x : ℕ) (xs : List ℕ) → 0 < x → x < 256
-    → Stood patterns (patterns ++ one_byte_names) (x ∷ xs)
-stood [] x xs l u = record {
-  by = one_byte x;
-  stands = record {
-    not_empty = λ e. cc;
-    is_front = begins_from (one_byte x) (x ∷ xs) xs refl;
-    met = tt;
-    is_tried = one_byte_tried x l u;
-  };
-}
-stood (t ∷ patterns) x xs l u = one_more t patterns (patterns ++ one_byte_names) (x ∷ xs) (stood patterns x xs l u)
+-- of what each of a list leads to
+stood_each : {tried : List ℕ → Type 0} {name : List ℕ} (xs : List (List ℕ)) (leads : List ℕ → List ℕ → Type 0)
+    → Stood nothing tried name → ((x : List ℕ) → Contains xs x → Stood (leads x) tried name)
+    → Stood (LedTo xs leads) tried name
+stood_each [] leads other each = stood_fewer other (λ t (x, c, led). contains_none x c)
+stood_each (x ∷ xs) leads other each =
+    stood_both (each x (contains_first x xs))
+    (stood_each xs leads other (λ y c. each y (contains_later x xs y c)))
+    (λ t (y, c, led). elim (contains_cases x xs y c) [
+      | inl same ↦ inl (subst (λ z. leads z t) (sym same) led)
+      | inr later ↦ inr (y, later, led)
+    ])
 
--- of names that begin with these bytes, each that is not empty has one that stands for it and begins with them too
-pub record StoodWithin (beginning : List ℕ) (patterns tried : List (List ℕ)) (name : List ℕ) : Type 0 where
-  pub by : List ℕ
-  pub stands : Stands patterns tried name by
-  pub front : begins beginning by ≡ true
-
-abbrev pub Cover : List ℕ → List (List ℕ) → List (List ℕ) → Type 0
-Cover beginning patterns tried =
-    (x : ℕ) (xs : List ℕ) → 0 < x → x < 256 → begins beginning (x ∷ xs) ≡ true
-    → StoodWithin beginning patterns tried (x ∷ xs)
-
-pub cover_all : (patterns : List (List ℕ)) → Cover [] patterns (patterns ++ one_byte_names)
-cover_all patterns x xs l u b =
-    let found = stood patterns x xs l u in
-    record { by = found.by; stands = found.stands; front = refl }
-
-pub cover_within : (beginning : List ℕ) (patterns : List (List ℕ))
-    → Cover beginning patterns (beginning ∷ patterns ++ one_byte_names)
-cover_within beginning patterns x xs l u b =
-    let found = stood (beginning ∷ patterns) x xs l u in
-    let stands = found.stands in
+-- of no pattern
+stood_byte : (tried : List ℕ → Type 0) (name : List ℕ) → IsName name → name ≢ []
+    → ((one : List ℕ) → IsOneByte one → tried one) → Stood nothing tried name
+stood_byte tried [] is some all = absurd (some refl)
+stood_byte tried (x ∷ xs) is some all =
+    let bounds = All-head (λ byte. (0 < byte) × (byte < 256)) x xs is in
     record {
-      by = found.by;
-      stands = grind arith;
-      front = stands.met.0 b;
+      by = x ∷ [];
+      stands = record {
+        not_empty = λ e. cc;
+        is_front = begins_from (x ∷ []) (x ∷ xs) xs refl;
+        met = λ t none. absurd none;
+        is_tried = all (x ∷ []) (x, bounds.0, bounds.1, refl);
+      };
     }
+
+-- the beginning, some names, and what others lead to
+stood_made : (beginning : List ℕ) (firsts xs : List (List ℕ)) (leads : List ℕ → List ℕ → Type 0)
+    (tried : List ℕ → Type 0) (name : List ℕ) → Stood nothing tried name → tried beginning
+    → ((t : List ℕ) → Contains firsts t → tried t)
+    → ((x : List ℕ) → Contains xs x → Stood (leads x) tried name)
+    → Stood (λ t. (t ≡ beginning) ⊎ (Contains firsts t ⊎ LedTo xs leads t)) tried name
+stood_made beginning firsts xs leads tried name other begun first each =
+    let one : Stood (λ t. t ≡ beginning) tried name = stood_one beginning other begun (λ t e. e) in
+    let two : Stood (LedTo firsts (λ x t. t ≡ x)) tried name =
+    stood_each firsts (λ x t. t ≡ x) other (λ x c. stood_one x other (first x c) (λ t e. e)) in
+    let both : Stood (λ t. Contains firsts t ⊎ LedTo xs leads t) tried name =
+    stood_both two (stood_each xs leads other each)
+    (λ t is. elim is [ inl c ↦ inl (t, c, refl) | inr led ↦ inr led ]) in
+    stood_both one both (λ t is. is)
 
 -- ---- a rule that fits a name fits what begins with that name
 
@@ -175,94 +230,128 @@ decides_front side rules front name rule b e fit = grind (arith, deciding-find, 
 
 -- ---- the same rule decides
 
-find_same : {X : Type 0} (p q : X → Bool) (xs : List X) → AllByRecursion (λ x. p x ≡ q x) xs → find p xs ≡ find q xs
-find_same p q [] all = refl
-find_same p q (x ∷ xs) all = rw (all.0, find_same p q xs all.1) refl
+find_same : {X : Type 0} (p q : X → Bool) (xs : List X) → ((x : X) → Contains xs x → p x ≡ q x)
+    → find p xs ≡ find q xs
+find_same p q [] same = refl
+find_same p q (x ∷ xs) same =
+    rw (same x (contains_first x xs), find_same p q xs (λ y c. same y (contains_later x xs y c))) refl
 
--- what begins the name begins what stands for it, and the other way round
+-- what begins the name begins the front, and the other way round
 met_same : (name c t : List ℕ) → begins c name ≡ true → Meets name c t → begins t name ≡ begins t c
 met_same name c t f met = same_tests (begins t name) (begins t c) met (λ b. begins_trans t c name b f)
 
--- by the patterns of the rules, which are among others
-patterns_same : (on : MappingRule → Bool) (pattern : MappingRule → List ℕ) (more : MappingRule → List (List ℕ))
-    (rules : List MappingRule) (name c : List ℕ) → begins c name ≡ true
-    → AllByRecursion (Meets name c) (flat_map (λ rule. cond (on rule) (pattern rule ∷ more rule) []) rules)
-    → AllByRecursion (λ rule. (on rule && begins (pattern rule) name) ≡ (on rule && begins (pattern rule) c)) rules
-patterns_same on pattern more [] name c f all = tt
-patterns_same on pattern more (rule ∷ rules) name c f all =
-    grind (arith, patterns_same on pattern more rules name c f, all_first, flat_map, all_second, met_same)
+fits_same : (side : Side) (name c : List ℕ) (rule : MappingRule)
+    → (acts side rule ≡ true → begins (pattern side rule) name ≡ begins (pattern side rule) c)
+    → fits side name rule ≡ fits side c rule
+fits_same side name c rule same = grind (arith, cases_Bool)
 
--- by the rests of a front
-rest_same : (added pattern name c : List ℕ) → begins c name ≡ true → (b : Bool) → begins added pattern ≡ b
-    → AllByRecursion (Meets name c) (cons_option (cond b (Some (drop (length added) pattern)) None) [])
-    → begins pattern (added ++ name) ≡ begins pattern (added ++ c)
-rest_same added pattern name c f true b met =
-    let rest = drop (length added) pattern in
-    let split = begins_split added pattern b in
-    ap (λ p. begins p (added ++ name)) split ∙ begins-append_both added rest name ∙ met_same name c rest f met.0
-    ∙ sym (ap (λ p. begins p (added ++ c)) split ∙ begins-append_both added rest c)
-rest_same added pattern name c f false fails met = grind (arith, same_tests, begins_trans, begins_within, begins-append)
-
-first_option : {X : Type 0} (P : X → Type 0) (o : Option X) (xs : List X) → AllByRecursion P (cons_option o xs)
-    → AllByRecursion P (cons_option o []) × AllByRecursion P xs
-first_option P o xs all = grind arith
+-- the patterns of the rules that act on the side begin both names or neither
+pub same_rule : (side : Side) (rules : List MappingRule) (name c : List ℕ)
+    → ((rule : MappingRule) → Contains rules rule → acts side rule ≡ true
+    → begins (pattern side rule) name ≡ begins (pattern side rule) c)
+    → deciding side rules name ≡ deciding side rules c
+same_rule side rules name c same =
+    deciding-find side rules name
+    ∙ find_same (fits side name) (fits side c) rules (λ rule among. fits_same side name c rule (same rule among))
+    ∙ sym (deciding-find side rules c)
 
 -- the rule's pattern for host names begins both of them or neither, if the rule acts on that side
 abbrev pub BeginsBoth : Side → List ℕ → List ℕ → MappingRule → Type 0
 BeginsBoth side host other rule =
-    acts side rule ≡ true → (pattern : List ℕ) → host_pattern side rule ≡ Some pattern
-    → begins pattern host ≡ begins pattern other
-
-rests_same : (side : Side) (others : List MappingRule) (added name c : List ℕ) → begins c name ≡ true
-    → AllByRecursion (Meets name c) (rests side others added)
-    → AllByRecursion (BeginsBoth side (added ++ name) (added ++ c)) others
-rests_same side [] added name c f all = tt
-rests_same side (rule ∷ others) added name c f all =
-    grind (arith, rests_same side others added name c f, first_option, option_and_then, rest_same)
-
--- the patterns of the rule that decides are among those of all rules
-of_found : (P : List ℕ → Type 0) (fit acts : MappingRule → Bool) (pattern : MappingRule → List ℕ)
-    (more : List ℕ → List (List ℕ)) → ((rule : MappingRule) → fit rule ≡ true → acts rule ≡ true)
-    → (rules : List MappingRule) (cut : List ℕ)
-    → AllByRecursion P
-    (flat_map (λ rule. cond (acts rule) (pattern rule ∷ option_map_or more (added_prefix_of rule) []) []) rules)
-    → option_and_then added_prefix_of (find fit rules) ≡ Some cut → AllByRecursion P (more cut)
-of_found P fit acts pattern more on [] cut all e = cc
-of_found P fit acts pattern more on (rule ∷ rules) cut all e =
-    grind (arith, of_found P fit acts pattern more on rules cut, all_first, flat_map, all_second, cond_both, option_and_then)
-
--- the two names meet the same rules, and the same patterns for host names begin what they become
-pub record FareAlike (side : Side) (rules others : List MappingRule) (name c : List ℕ) : Type 0 where
-  pub client : deciding Client rules name ≡ deciding Client rules c
-  pub hosts : (added : List ℕ) → added_prefix Client rules name ≡ Some added
-      → AllByRecursion (BeginsBoth side (added ++ name) (added ++ c)) others
-
-pub fare_alike : (side : Side) (rules others : List MappingRule) (tried : List (List ℕ)) (name c : List ℕ)
-    → Stands (guest_names side others rules) tried name c → FareAlike side rules others name c
-fare_alike side rules others tried name c stands = record {
-  client = deciding-find Client rules name
-      ∙ find_same (fits Client name) (fits Client c) rules
-      (patterns_same (λ rule. rule.client) (λ rule. rule.key)
-      (λ rule. option_map_or (rests side others) (added_prefix_of rule) []) rules name c stands.is_front stands.met) ∙ sym (deciding-find Client rules c);
-  hosts = λ added e.
-      (let decides = ap (option_and_then added_prefix_of) (sym (deciding-find Client rules name)) ∙ e in
-      let met =
-      of_found (Meets name c) (fits Client name) (λ rule. rule.client) (λ rule. rule.key) (rests side others)
-      (λ rule b. (and_parts rule.client (begins rule.key name) b).0) rules added stands.met decides in
-      rests_same side others added name c stands.is_front met);
-}
+    acts side rule ≡ true → (found : List ℕ) → host_pattern side rule ≡ Some found
+    → begins found host ≡ begins found other
 
 -- host names that the same prepends begin meet the same rule of the server
 pub server_alike : (others : List MappingRule) (host other : List ℕ)
-    → AllByRecursion (BeginsBoth Server host other) others → deciding Server others host ≡ deciding Server others other
-server_alike others host other all = search (rules, deciding-find, find_same, all_weaker)
+    → ((rule : MappingRule) → Contains others rule → BeginsBoth Server host other rule)
+    → deciding Server others host ≡ deciding Server others other
+server_alike others host other both =
+    same_rule Server others host other (λ rule among on. both rule among on rule.prepend refl)
 
--- ---- the same for names of the host
+-- ---- names of the guest
+
+-- by the rests of a front
+rest_same : (added found name c : List ℕ) → begins c name ≡ true
+    → ((rest : List ℕ) → found ≡ added ++ rest → Meets name c rest)
+    → begins found (added ++ name) ≡ begins found (added ++ c)
+rest_same added found name c f met =
+    elim (cases_Bool (begins added found)) [
+      | inl b ↦
+          (let rest = drop (length added) found in
+          let split = begins_split added found b in
+          ap (λ p. begins p (added ++ name)) split ∙ begins-append_both added rest name
+          ∙ met_same name c rest f (met rest split)
+          ∙ sym (ap (λ p. begins p (added ++ c)) split ∙ begins-append_both added rest c))
+      | inr fails ↦ same_tests (begins found (added ++ name)) (begins found (added ++ c))
+          (λ b. begins_trans found added (added ++ c) (begins_within added found name fails b) (begins-append added c))
+          (λ b. begins_trans found added (added ++ name) (begins_within added found c fails b)
+          (begins-append added name))
+    ]
+
+stood_rest : (added pattern : List ℕ) (tried : List ℕ → Type 0) (name : List ℕ) → Stood nothing tried name
+    → ((rest : List ℕ) → pattern ≡ added ++ rest → tried rest) → Stood (λ t. pattern ≡ added ++ t) tried name
+stood_rest added pattern tried name other is =
+    elim (cases_Bool (begins added pattern)) [
+      | inl b ↦ stood_one (drop (length added) pattern) other
+          (is (drop (length added) pattern) (begins_split added pattern b))
+          (λ t e. sym (ap (drop (length added)) e ∙ drop_at added t (length added) refl))
+      | inr fails ↦ stood_fewer other (λ t e. false≢true (sym fails ∙ begins_from added pattern t e))
+    ]
+
+-- the names of the guest that are tried
+abbrev pub GuestTried : Side → List MappingRule → List MappingRule → List ℕ → List ℕ → Type 0
+GuestTried side rules others beginning =
+    IsTried beginning (IsGuestName (parts Key rules) (parts (Added Client) rules) (parts (Host side) others))
+
+-- a front of the name is tried, meets the same rule, and the same patterns for host names begin what both become
+pub record FareAlike (side : Side) (rules others : List MappingRule) (beginning name added : List ℕ) : Type 0 where
+  pub by : List ℕ
+  pub not_empty : by ≢ []
+  pub is_front : begins by name ≡ true
+  pub front : begins beginning by ≡ true
+  pub is_tried : GuestTried side rules others beginning by
+  pub client : added_prefix Client rules by ≡ Some added
+  pub hosts : (rule : MappingRule) → Contains others rule → BeginsBoth side (added ++ name) (added ++ by) rule
+
+pub fare_alike : (side : Side) (rules others : List MappingRule) (beginning name added : List ℕ) → IsName name
+    → name ≢ [] → begins beginning name ≡ true → added_prefix Client rules name ≡ Some added
+    → FareAlike side rules others beginning name added
+fare_alike side rules others beginning name added is some b e =
+    let keys = parts Key rules in
+    let patterns = parts (Host side) others in
+    let tried : List ℕ → Type 0 = GuestTried side rules others beginning in
+    let among = added_among Client rules name added e in
+    let other = stood_byte tried name is some (λ one byte. inr (inr byte)) in
+    let stood =
+    stood_made beginning keys patterns (λ pattern t. pattern ≡ added ++ t) tried name other (inl refl)
+    (λ t c. inr (inl (inl c)))
+    (λ pattern c. stood_rest added pattern tried name other
+    (λ rest split. inr (inl (inr (added, among, (pattern, c, split)))))) in
+    let c = stood.by in
+    let stands = stood.stands in
+    record {
+      by = c;
+      not_empty = stands.not_empty;
+      is_front = stands.is_front;
+      front = stands.met beginning (inl refl) b;
+      is_tried = stands.is_tried;
+      client = ap (option_and_then added_prefix_of) (sym (same_rule Client rules name c
+          (λ rule within on. met_same name c rule.key stands.is_front
+          (stands.met rule.key (inr (inl (part_among (part_of Key) rules rule rule.key within (rw on refl)))))))) ∙ e;
+      hosts = λ rule within on found is_found. rest_same added found name c stands.is_front
+          (λ rest split. stands.met rest (inr (inr (
+            found,
+            part_among (part_of (Host side)) others rule found within (rw on is_found),
+            split,
+          ))));
+    }
+
+-- ---- names of the host
 
 -- what the server's rules take off a host name, they take off it alone too
 front_is_cut : (rules : List MappingRule) (host cut : List ℕ) → added_prefix Server rules host ≡ Some cut
-    → is_cut rules cut ≡ true
-front_is_cut rules host [] e = refl
+    → IsCut rules cut
+front_is_cut rules host [] e = inl refl
 front_is_cut rules host (x ∷ xs) e =
     let by = adds_by (deciding Server rules host) (x ∷ xs) e in
     let rule = by.rule in
@@ -274,42 +363,59 @@ front_is_cut rules host (x ∷ xs) e =
     let same =
     decides_front Server rules (x ∷ xs) host rule begun by.decides
     (and_from rule.server (begins rule.prepend (x ∷ xs)) fit.0 alone) in
-    ap (λ o. cuts (x ∷ xs) (option_and_then added_prefix_of o)) same ∙ ap (cuts (x ∷ xs)) by.puts
-    ∙ eq-eqb (length (x ∷ xs)) (length (x ∷ xs)) refl
+    inr (x ∷ xs, ap (option_and_then added_prefix_of) same ∙ by.puts, refl)
 
-wholes_same : (others : List MappingRule) (cut name rest : List ℕ) → begins (cut ++ rest) (cut ++ name) ≡ true
-    → AllByRecursion (Meets (cut ++ name) (cut ++ rest)) (wholes others cut)
-    → AllByRecursion (λ rule. fits Client name rule ≡ fits Client rest rule) others
-wholes_same [] cut name rest f all = tt
-wholes_same (rule ∷ others) cut name rest f all =
-    grind (arith, wholes_same others cut name rest f, first_option, begins-append_both, met_same)
+-- the names of the host that are tried
+abbrev pub HostTried : List MappingRule → List ℕ → List ℕ → Type 0
+HostTried rules beginning =
+    IsTried beginning (IsHostName rules (parts (Host Server) rules) (parts (Added Server) rules) (parts Key rules))
 
-pub record ListedAlike (rules others : List MappingRule) (host c : List ℕ) : Type 0 where
-  pub server : deciding Server rules host ≡ deciding Server rules c
-  pub client : (cut name rest : List ℕ) → added_prefix Server rules host ≡ Some cut → host ≡ cut ++ name → c ≡ cut ++ rest
-      → deciding Client others name ≡ deciding Client others rest
+-- a front of the host name is tried, and meets the same rule, and so does what both are listed as
+pub record ListedAlike (rules : List MappingRule) (beginning host cut : List ℕ) : Type 0 where
+  pub by : List ℕ
+  pub not_empty : by ≢ []
+  pub is_front : begins by host ≡ true
+  pub front : begins beginning by ≡ true
+  pub is_tried : HostTried rules beginning by
+  pub server : added_prefix Server rules by ≡ Some cut
+  pub client : (name rest : List ℕ) → host ≡ cut ++ name → by ≡ cut ++ rest
+      → deciding Client rules name ≡ deciding Client rules rest
 
-pub listed_alike : (rules others : List MappingRule) (tried : List (List ℕ)) (host c : List ℕ)
-    → Stands (host_names others rules) tried host c → ListedAlike rules others host c
-listed_alike rules others tried host c stands = record {
-  server = deciding-find Server rules host
-      ∙ find_same (fits Server host) (fits Server c) rules
-      (patterns_same (λ rule. rule.server) (λ rule. rule.prepend)
-      (λ rule. option_map_or (live_wholes rules others) (added_prefix_of rule) []) rules host c stands.is_front stands.met) ∙ sym (deciding-find Server rules c);
-  client = λ cut name rest e split other.
-      (let decides = ap (option_and_then added_prefix_of) (sym (deciding-find Server rules host)) ∙ e in
-      let led =
-      of_found (Meets host c) (fits Server host) (λ rule. rule.server) (λ rule. rule.prepend)
-      (live_wholes rules others) (λ rule b. (and_parts rule.server (begins rule.prepend host) b).0) rules cut
-      stands.met decides in
-      let met : AllByRecursion (Meets host c) (wholes others cut) =
-      grind (arith, Meets, front_is_cut) in
-      let front : begins (cut ++ rest) (cut ++ name) ≡ true =
-      grind arith in
-      let over =
-      subst (λ n. AllByRecursion (Meets n (cut ++ rest)) (wholes others cut)) split
-      (subst (λ p. AllByRecursion (Meets host p) (wholes others cut)) other met) in
-      deciding-find Client others name
-      ∙ find_same (fits Client name) (fits Client rest) others (wholes_same others cut name rest front over)
-      ∙ sym (deciding-find Client others rest));
-}
+pub listed_alike : (rules : List MappingRule) (beginning host cut : List ℕ) → IsName host → host ≢ []
+    → begins beginning host ≡ true → added_prefix Server rules host ≡ Some cut → ListedAlike rules beginning host cut
+listed_alike rules beginning host cut is some b e =
+    let prepends = parts (Host Server) rules in
+    let keys = parts Key rules in
+    let tried : List ℕ → Type 0 = HostTried rules beginning in
+    let among = added_among Server rules host cut e in
+    let live = front_is_cut rules host cut e in
+    let other = stood_byte tried host is some (λ one byte. inr (inr byte)) in
+    let stood =
+    stood_made beginning prepends keys (λ key t. t ≡ cut ++ key) tried host other (inl refl)
+    (λ t c. inr (inl (inl c)))
+    (λ key c. stood_one (cut ++ key) other (inr (inl (inr (cut, among, (live, (key, c, refl)))))) (λ t same. same)) in
+    let c = stood.by in
+    let stands = stood.stands in
+    record {
+      by = c;
+      not_empty = stands.not_empty;
+      is_front = stands.is_front;
+      front = stands.met beginning (inl refl) b;
+      is_tried = stands.is_tried;
+      server = ap (option_and_then added_prefix_of) (sym (same_rule Server rules host c
+          (λ rule within on. met_same host c rule.prepend stands.is_front
+          (stands.met rule.prepend (inr (inl (part_among (part_of (Host Server)) rules rule rule.prepend within
+          (rw on refl)))))))) ∙ e;
+      client = λ name rest split parted. same_rule Client rules name rest
+          (λ rule within on.
+          (let met : Meets host c (cut ++ rule.key) =
+          stands.met (cut ++ rule.key) (inr (inr (
+            rule.key,
+            part_among (part_of Key) rules rule rule.key within
+                (rw on refl),
+            refl,
+          ))) in
+          sym (begins-append_both cut rule.key name) ∙ ap (begins (cut ++ rule.key)) (sym split)
+          ∙ met_same host c (cut ++ rule.key) stands.is_front met ∙ ap (begins (cut ++ rule.key)) parted
+          ∙ begins-append_both cut rule.key rest));
+    }

@@ -21,10 +21,10 @@ pub lacks_text : (d : ℕ) (s : List ℕ) → IsUtf8 s → NoCharPasses (λ c. e
 lacks_text d s utf8 (cs, spells, none) = search (rules, chars_from_encodes, lacks_from_none)
 
 -- a text at a place where d stands
-record CutAt (d : ℕ) (s before after : List ℕ) : Type 0 where
-  spells : chars s ≡ chars before ++ d ∷ chars after
-  before_is : IsUtf8 before
-  after_is : IsUtf8 after
+pub record CutAt (d : ℕ) (s before after : List ℕ) : Type 0 where
+  pub spells : chars s ≡ chars before ++ d ∷ chars after
+  pub before_is : IsUtf8 before
+  pub after_is : IsUtf8 after
 
 cut_at : (d : ℕ) (s : List ℕ) (i j : ℕ) → IsScalar d → IsUtf8 s → HasCharAt d s i j → i ≤ length s
     → CutAt d s (take i s) (drop j s)
@@ -40,11 +40,11 @@ cut_at d s i j scalar utf8 at fits =
     }
 
 -- a text that is cut at the first d
-record FirstCut (d : ℕ) (s before after : List ℕ) : Type 0 where
-  here : CutAt d s before after
-  first : Lacks d (chars before)
+pub record FirstCut (d : ℕ) (s before after : List ℕ) : Type 0 where
+  pub here : CutAt d s before after
+  pub first : Lacks d (chars before)
 
-first_cut : (d : ℕ) (s before after : List ℕ) → IsScalar d → IsUtf8 s → SplitsAroundMatch (FindsChar d) s before after
+pub first_cut : (d : ℕ) (s before after : List ℕ) → IsScalar d → IsUtf8 s → SplitsAroundMatch (FindsChar d) s before after
     → FirstCut d s before after
 first_cut d s before after scalar utf8 (i, j, (none, at), front, back, order, front_len, back_len) =
     let here = cut_at d s i j scalar utf8 at (omega (arith, ap length front, length-take i s)) in
@@ -59,21 +59,10 @@ pub split_nowhere : (d : ℕ) (s : List ℕ) (r : Option (Bor (List ℕ) × Bor 
 split_nowhere d s None utf8 none = lacks_text d s utf8 none
 split_nowhere d s (Some p) utf8 splits = tt
 
-pub split_whole : (d : ℕ) (s : List ℕ) (r : Option (Bor (List ℕ) × Bor (List ℕ))) → IsScalar d → IsUtf8 s
-    → SplitsOnce d s r → IfSome r (λ p. chars s ≡ chars p.0.now ++ d ∷ chars p.1.now)
-split_whole d s r scalar utf8 none = grind (arith, first_cut)
-
 pub split_first : (d : ℕ) (s : List ℕ) (r : Option (Bor (List ℕ) × Bor (List ℕ))) → IsScalar d → IsUtf8 s
     → SplitsOnce d s r → IfSome r (λ p. Lacks d (chars p.0.now))
 split_first d s None scalar utf8 none = tt
 split_first d s (Some p) scalar utf8 splits = (first_cut d s p.0.now p.1.now scalar utf8 splits).first
-
-pub split_texts : (d : ℕ) (s : List ℕ) (r : Option (Bor (List ℕ) × Bor (List ℕ))) → IsScalar d → IsUtf8 s
-    → SplitsOnce d s r → IfSome r (λ p. IsUtf8 p.0.now × IsUtf8 p.1.now)
-split_texts d s None scalar utf8 none = tt
-split_texts d s (Some p) scalar utf8 splits =
-    let cut = first_cut d s p.0.now p.1.now scalar utf8 splits in
-    (cut.here.before_is, cut.here.after_is)
 
 -- what stands before the first d is a field
 pub field_here : (d : ℕ) (text field rest : List ℕ) → text ≡ field ++ d ∷ rest → Lacks d field

@@ -20,8 +20,8 @@ pub use Rattle.virtiofs_map.proofs.SpecificationLawLemmas.{Says-no_fault as spec
 pub use Rattle.virtiofs_map.proofs.SpecificationLawLemmas.{HasSpecificationFault-one as specification_one_fault}
 -- of lists of specifications and of texts
 pub use Rattle.virtiofs_map.proofs.MappingLawLemmas.{HasOneValue-accepted as lookup_one_value}
-pub use Rattle.virtiofs_map.proofs.BuildFaultLemmas.{Accepted-no_fault as build_no_fault}
-pub use Rattle.virtiofs_map.proofs.BuildFaultLemmas.{HasFirstFault-one as build_one_fault}
+pub use Rattle.virtiofs_map.proofs.BuildLemmas.{Accepted-no_fault as build_no_fault}
+pub use Rattle.virtiofs_map.proofs.BuildLemmas.{HasFirstFault-one as build_one_fault}
 pub use Rattle.virtiofs_map.proofs.SpecificationsLemmas.{AllSay-one as texts_one_value}
 pub use Rattle.virtiofs_map.proofs.SpecificationsLemmas.{AllSay-no_fault as texts_no_fault}
 pub use Rattle.virtiofs_map.proofs.SpecificationsLemmas.{HasSpecsFault-one as texts_one_fault}

@@ -6,6 +6,7 @@ use Rattle.std.proofs.lemmas.List.Elements.{All-contains}
 use Rattle.std.proofs.lemmas.List.Sorted.{All-permutation, Contains-permutation, IsPermutation-sym}
 use Rattle.std.proofs.lemmas.Bool.{cases_order}
 use Rattle.std.proofs.lemmas.Option.{same_Some}
+use Rattle.virtiofs_map.proofs.BuildLemmas.{built}
 use Rattle.virtiofs_map.proofs.OrderLemmas.{AllPairs-permutation}
 use Rattle.virtiofs_map.specs.Mapping.{entry_of, Covers, Maps, Becomes}
 use Rattle.virtiofs_map.specs.Build.{Accepted, HasSource, HasTarget, Meet}
@@ -106,3 +107,6 @@ IsOrderFree-accepted specs accepted others permutation =
       },
       λ direction n value. (search (rules, Becomes-listed)),
     )
+
+-- what a build promises
+pub ruleset what_is_built = (built, IsOrderFree-accepted, KeepsGreatest-accepted)

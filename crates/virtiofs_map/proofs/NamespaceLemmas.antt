@@ -17,7 +17,7 @@ use Rattle.virtiofs_map.specs.NamespaceParts.{IsThreeFields}
 use Rattle.virtiofs_map.specs.NamespaceText.{SaysNamespace, IsEnclosed, HasNoDelimiter, HasOtherField, NamespaceFault}
 use Rattle.virtiofs_map.specs.NamespaceText.{InvalidDelimiter, IncompleteMap, InvalidValue, HasNamespaceFault}
 use Rattle.virtiofs_map.proofs.NumeralLemmas.{IsNumeral-one}
-use Rattle.virtiofs_map.proofs.SpecificationPrefixLemmas.{chars-push}
+use Rattle.virtiofs_map.proofs.SpecificationLemmas.{chars-push}
 use Rattle.virtiofs_map.proofs.SpecificationLemmas.{split_at_each-cut, split_at_each-last}
 
 -- the three fields are those that the delimiter separates
@@ -241,3 +241,12 @@ more_fields d inner x rest y z front back whole first cut second more third =
       split_at_each-cut d z front back more third,
     )
     (omega (arith, length-split_at_each d back))
+
+-- how many fields there are
+pub ruleset fields = (IsThreeFields-here, one_field, two_fields, more_fields)
+
+-- what three fields say
+pub ruleset parts = (SaysNamespace-parts, HasOtherField-parts)
+
+-- that a text says one range, or has one fault
+pub ruleset one_reading = (SaysNamespace-one, SaysNamespace-no_fault, HasNamespaceFault-one)

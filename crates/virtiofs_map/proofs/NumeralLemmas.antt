@@ -1,6 +1,6 @@
 -- What `parse` reads as a number is a numeral, over characters, and nothing else is.
 use Rattle.std.proofs.Common.{◌≡◌, ℕ, ◌^◌, ◌<◌, List, [], ◌∷◌, length, get_or, All, Result, Ok, Err, MatchResult}
-use Rattle.std.proofs.Common.{IfOk, IfErr, IsOkAnd, IsErr, refl, sym, ◌∙◌, subst, inl, arith, decimal, chars, IsUtf8}
+use Rattle.std.proofs.Common.{IfErr, IsOkAnd, refl, sym, ◌∙◌, subst, inl, arith, decimal, chars, IsUtf8}
 use Rattle.std.proofs.Common.{IsAscii, rules}
 use Rattle.std.specs.Char.{IsAsciiDigit}
 use Rattle.std.specs.Int.{IsInRange}
@@ -55,7 +55,7 @@ digits_of_numeral bs value n = search (rules, All-get_or, without_leading_plus_n
 pub IsNumeral-one : (text : List ℕ) (v w : ℕ) → IsNumeral text v → IsNumeral text w → v ≡ w
 IsNumeral-one text v w a b = search (rules, digits_of_numeral)
 
-numeral_from_parse : {E : Type 0} (bs : List ℕ) (r : Result ℕ E) → IsUtf8 bs → ParsesUnsigned 32 10 bs r
+pub numeral_from_parse : {E : Type 0} (bs : List ℕ) (r : Result ℕ E) → IsUtf8 bs → ParsesUnsigned 32 10 bs r
     → MatchResult r (λ value. IsNumeral (chars bs) value) (λ _. (value : ℕ) → IsNumeral (chars bs) value → ⊥)
 numeral_from_parse bs (Ok value) text (parsed, is) =
     let numeral : IsNumeral bs value =
@@ -70,10 +70,6 @@ numeral_from_parse bs (Err e) text refused =
     (search (rules, AllDigits-All)))
 
 -- so what `parse` answers is told both ways
-pub numeral_read : {E : Type 0} (bs : List ℕ) (r : Result ℕ E) → IsUtf8 bs → ParsesUnsigned 32 10 bs r
-    → IfOk r (λ value. IsNumeral (chars bs) value)
-numeral_read bs r e text = grind (arith, numeral_from_parse)
-
 pub numeral_complete : {E : Type 0} (bs : List ℕ) (r : Result ℕ E) → IsUtf8 bs → ParsesUnsigned 32 10 bs r → (value : ℕ)
     → IsNumeral (chars bs) value → IsOkAnd r (λ read. read ≡ value)
 numeral_complete {E} bs (Ok read) text parsed value numeral =
@@ -85,10 +81,6 @@ pub numeral_refused : {E : Type 0} (bs : List ℕ) (r : Result ℕ E) → IsUtf8
     → IfErr r (λ _. (value : ℕ) → ¬ IsNumeral (chars bs) value)
 numeral_refused {E} bs (Ok value) text parsed = tt
 numeral_refused {E} bs (Err e) text parsed = numeral_from_parse {E = E} bs (Err e) text parsed
-
-pub numeral_faulty : {E : Type 0} (bs : List ℕ) (r : Result ℕ E) → IsUtf8 bs → ParsesUnsigned 32 10 bs r
-    → ((value : ℕ) → ¬ IsNumeral (chars bs) value) → IsErr r
-numeral_faulty bs r e text parsed = grind (arith, numeral_from_parse)
 
 -- a number in decimal is nothing but digits
 pub All-decimal : (n : ℕ) → n < 2 ^ 32 → All IsAsciiDigit (decimal n)

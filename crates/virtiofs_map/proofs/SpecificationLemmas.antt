@@ -1,21 +1,86 @@
--- The fields of a specification's text, and what is wrong with them.
-use Rattle.std.proofs.Common.{◌≡◌, inl, inr, ◌==◌, ℕ, false, List, [], ◌∷◌, ◌++◌, length, All, Option}
-use Rattle.std.proofs.Common.{Some, None, Result, Ok, Err, IfOk, IfErr, sym, ap, ◌∙◌, eq-eqb, encode_utf8_all}
-use Rattle.std.proofs.Common.{chars, IsUtf8, IsAscii, rules, arith}
-use Rattle.std.specs.List.{AllZip}
-use Rattle.std.proofs.lemmas.Str.{chars-IsAscii, encodes-IsAscii, encodes-chars}
+-- The prefix and the fields of a specification's text, and what is wrong with them.
+use Rattle.std.proofs.Common.{◌≡◌, ℕ, true, false, nat_lt, List, [], ◌∷◌, ◌++◌, length, sym, ap, ◌∙◌, append_assoc}
+use Rattle.std.proofs.Common.{arith, encode_utf8, chars, IsUtf8, append-nil, ltb-true, ltb-false, rules, inl, inr, ◌==◌}
+use Rattle.std.proofs.Common.{All, Option, Some, None, Result, Ok, Err, IfOk, IfErr, eq-eqb, encode_utf8_all, IsAscii}
+use Rattle.std.specs.Char.{IsScalar, to_ascii_lowercase}
+use Rattle.std.specs.List.{AllPass, AllZip}
+use Rattle.std.proofs.lemmas.Str.{chars-append, chars-nil, chars_past_char, scalars-chars, IsUtf8-encode}
+use Rattle.std.proofs.lemmas.Str.{IsUtf8-past_char, chars-IsAscii, encodes-IsAscii, encodes-chars}
+use Rattle.std.proofs.lemmas.List.{map-append}
+use Rattle.std.proofs.lemmas.Bool.{and_parts, cases_Bool}
+use Rattle.std.proofs.Math.Utf8.{scalar, scalars}
+use Rattle.std.proofs.lemmas.List.Elements.{All-push, All-nil, All-weaker}
+use Rattle.virtiofs_map.specs.SpecificationText.{is_word_character, lowered, word_of, numbers_of, HasNumerals, Says}
+use Rattle.virtiofs_map.specs.SpecificationText.{SpecificationFault, HasSpecificationFault, specification_fault_of}
+use Rattle.virtiofs_map.specs.SpecificationParts.{IsLoweredCut, IsFieldFault, IsFieldsFault, IsCountFault, IsWordFault}
 use Rattle.std.proofs.lemmas.Str.Ascii.{IsAscii-from_all}
 use Rattle.std.proofs.lemmas.List.Sums.{AllPass-from_list_all}
 use Rattle.std.proofs.lemmas.List.Splits.{slice_split_at, slice_split_none}
-use Rattle.std.proofs.lemmas.List.Elements.{All-weaker, All-nil}
+use Rattle.virtiofs_map.proofs.ZipLemmas.{AllZip-push}
 use Rattle.virtiofs_map.specs.Numeral.{IsNumeral}
-use Rattle.virtiofs_map.specs.SpecificationText.{word_of, numbers_of, HasNumerals, Says, SpecificationFault}
-use Rattle.virtiofs_map.specs.SpecificationText.{HasSpecificationFault, specification_fault_of}
 use Rattle.virtiofs_map.specs.Refusal.{OutOfMemoryOr}
 use Rattle.virtiofs_map.specs.Separator.{Lacks, split_at_each}
-use Rattle.virtiofs_map.specs.SpecificationParts.{IsFieldFault, IsFieldsFault, IsCountFault, IsWordFault, IsLoweredCut}
 use Rattle.virtiofs_map.specs.declared.cmdline.IdMap.{IdMap}
 use Rattle.virtiofs_map.specs.declared.cmdline.IdMapError.{IdMapError}
+
+-- word characters, and then the rest of the text; the word is the former with ASCII letters lowered
+pub record IsPrefixSoFar (text rest word : List ℕ) : Type 0 where
+  pub is_text : IsUtf8 rest
+  pub done : List ℕ
+  pub whole : chars text ≡ done ++ chars rest
+  pub passed : AllPass is_word_character done
+  pub lower : chars word ≡ lowered done
+
+pub IsPrefixSoFar-start : (text rest word : List ℕ) → IsUtf8 text → rest ≡ text → word ≡ []
+    → IsPrefixSoFar text rest word
+IsPrefixSoFar-start text rest word is_text same empty = search (rules, All-nil, chars-nil)
+
+-- the first of several characters is one
+IsScalar-first : (c : ℕ) (cs : List ℕ) → scalars (c ∷ cs) ≡ true → IsScalar c
+IsScalar-first c cs all = (and_parts (scalar c) (scalars cs) all).0
+
+-- a character in lower case is one
+IsScalar-lower : (c : ℕ) → IsScalar c → IsScalar (to_ascii_lowercase c)
+IsScalar-lower c scalar = grind (arith, cases_Bool, nat_lt, ltb-true, ltb-false)
+
+-- one character as a text
+chars-encode : (c : ℕ) → IsScalar c → chars (encode_utf8 c) ≡ c ∷ []
+chars-encode c scalar =
+    chars_past_char (encode_utf8 c) [] c (IsUtf8-encode c scalar) (sym (append-nil (encode_utf8 c)))
+    ∙ ap (λ (cs : List ℕ). c ∷ cs) chars-nil
+
+-- a text with one more character at its end
+pub chars-push : (bs : List ℕ) (c : ℕ) → IsUtf8 bs → IsScalar c → chars (bs ++ encode_utf8 c) ≡ chars bs ++ c ∷ []
+chars-push bs c text scalar = search (rules, chars-append, chars-encode)
+
+pub IsPrefixSoFar-more : (text rest back word : List ℕ) (c d : ℕ) → IsUtf8 word → d ≡ to_ascii_lowercase c
+    → rest ≡ encode_utf8 c ++ back → is_word_character c ≡ true → IsPrefixSoFar text rest word
+    → IsPrefixSoFar text back (word ++ encode_utf8 d)
+IsPrefixSoFar-more text rest back word c d is_word lower next passes so_far =
+    let next_chars : chars rest ≡ c ∷ chars back = chars_past_char rest back c so_far.is_text next in
+    let scalar : IsScalar d =
+    rw lower
+    (IsScalar-lower c
+    (IsScalar-first c (chars back) (ap scalars (sym next_chars) ∙ scalars-chars rest so_far.is_text))) in
+    let pushed : chars (word ++ encode_utf8 d) ≡ chars word ++ d ∷ [] = chars-push word d is_word scalar in
+    record {
+      is_text = IsUtf8-past_char rest back c so_far.is_text next;
+      done = so_far.done ++ c ∷ [];
+      whole = grind (arith, append_assoc);
+      passed = search (rules, All-push);
+      lower = grind (arith, map-append);
+    }
+
+-- the prefix ends at a character that is no word character
+pub IsLoweredCut-here : (text rest back word : List ℕ) (c : ℕ) → rest ≡ encode_utf8 c ++ back
+    → is_word_character c ≡ false → IsPrefixSoFar text rest word → IsLoweredCut (chars text) (chars word) c (chars back)
+IsLoweredCut-here text rest back word c next ends so_far = search (rules, chars_past_char)
+
+-- where nothing is left, the text is nothing but word characters
+pub AllPass-prefix : (text rest word : List ℕ) → length rest ≡ 0 → IsPrefixSoFar text rest word
+    → AllPass is_word_character (chars text)
+AllPass-prefix text [] word empty so_far = grind (arith, chars-nil, append-nil)
+AllPass-prefix text (b ∷ rest) word empty so_far = absurd (omega arith)
 
 -- no character is the separator, as a test
 fails_from_lacks : (separator : ℕ) (text : List ℕ) → Lacks separator text → All (λ c. (c == separator) ≡ false) text
@@ -104,3 +169,12 @@ pub refused-word : {A : Type 0} (text word rest : List ℕ) (separator : ℕ) (v
     → IfErr r (λ e. OutOfMemoryOr (specification_fault_of e) (HasSpecificationFault text))
 refused-word text word rest separator values (Ok spec) is_text cut read refused = tt
 refused-word text word rest separator values (Err e) is_text cut read refused = search (rules, refused_word)
+
+-- what the reader answers
+pub ruleset read_words = (read-word, refused-word, refused-fields)
+
+-- how a prefix is read
+pub ruleset read_prefix = (IsPrefixSoFar-start, IsPrefixSoFar-more, IsLoweredCut-here, AllPass-prefix)
+
+-- how fields are read
+pub ruleset fields = (split_at_each-cut, split_at_each-last, IsFieldsFault-here, AllZip-push)

@@ -11,7 +11,8 @@ use Rattle.virtiofs_map.specs.SpecificationText.{Says, SpecificationFault, HasSp
 use Rattle.virtiofs_map.specs.Specifications.{texts_of, AllSay, HasFirstUnread, SpecsFault, Unread, Unbuilt}
 use Rattle.virtiofs_map.specs.Specifications.{HasSpecsFault, IsReadUpTo}
 use Rattle.virtiofs_map.specs.declared.cmdline.IdMap.{IdMap}
-use Rattle.virtiofs_map.proofs.BuildFaultLemmas.{Accepted-no_fault, HasFirstFault-one}
+use Rattle.virtiofs_map.proofs.BuildLemmas.{Accepted-no_fault, HasFirstFault-one}
+use Rattle.virtiofs_map.proofs.ReaderLemmas.{out_of_memory, told_fault}
 use Rattle.virtiofs_map.proofs.SpecificationLawLemmas.{Says-one, Says-no_fault, HasSpecificationFault-one}
 use Rattle.virtiofs_map.proofs.ZipLemmas.{AllZip-push, AllZip-one}
 
@@ -78,3 +79,9 @@ IsReadUpTo-here texts specs i below say = search (rules, length-map)
 pub refused-build : (texts : List (List ℕ)) (specs : List IdMap) (told : Option BuildFault) → AllSay texts specs
     → OutOfMemoryOr told (HasFirstFault specs) → OutOfMemoryOr (option_map Unbuilt told) (HasSpecsFault texts)
 refused-build texts specs told say refused = grind arith
+
+-- that a list of texts means one list of specifications, or has one fault
+pub ruleset what_is_read = (out_of_memory, told_fault, AllSay-one, AllSay-no_fault, HasSpecsFault-one, refused-build)
+
+-- how the texts are read
+pub ruleset all_said = (AllSay-more, refused-text, IsReadUpTo-here)

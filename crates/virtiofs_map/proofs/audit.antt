@@ -1,4 +1,3 @@
-mod AuditCountLemmas
 mod AuditCutLemmas
 mod AuditGatheredLemmas
 pub mod AuditLeastLemmas

@@ -9,7 +9,6 @@ mod MadeRuleLemmas
 mod NodeCountLemmas
 mod RuleEqualityLemmas
 mod RuleWordLemmas
-mod SlotLemmas
 mod TerminatedLemmas
 mod WalkAnswerLemmas
 mod PathLemmas

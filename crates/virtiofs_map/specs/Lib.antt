@@ -4,7 +4,6 @@ pub mod Audit
 pub mod AuditParts
 pub mod NodeParts
 pub mod Build
-pub mod BuildParts
 pub mod LeU64Parts
 pub mod FirstRule
 pub mod GatheredParts
@@ -40,5 +39,4 @@ pub mod SpecificationParts
 pub mod SpecificationText
 pub mod Specifications
 pub mod Steps
-pub mod TrieParts
 pub mod WordParts

@@ -4,10 +4,11 @@ use Rattle.std.specs.Prelude.{◌≡◌, ◌≢◌, ◌⊎◌, ℕ, ◌+◌, ◌
 use Rattle.std.specs.Prelude.{◌∷◌, ◌++◌, length, take, drop, filter, map, Contains, All, Option, Some, slice_get}
 use Rattle.std.specs.Prelude.{slice_index}
 use Rattle.std.specs.List.{flat_map}
+use Rattle.std.specs.List.Sorted.{IsPermutation}
 use Rattle.std.specs.Option.{option_map_or}
 use Rattle.virtiofs_map.specs.FirstRule.{CountsFronts, acts, pattern, longest, deciding_length, shared}
 use Rattle.virtiofs_map.specs.Names.{begins, first}
-use Rattle.virtiofs_map.specs.PatternTrie.{longest_label, text_nodes}
+use Rattle.virtiofs_map.specs.PatternTrie.{nodes_in_all}
 use Rattle.virtiofs_map.specs.Rule.{MappingRule, HasNoZero, type_number}
 use Rattle.virtiofs_map.specs.Steps.{count_after}
 use Rattle.virtiofs_map.specs.LeU64Parts.{le_u64_bytes}
@@ -138,6 +139,7 @@ pub record IsPatternAt (side : Side) (rules : List MappingRule) (bytes : List �
   pub are : one.bytes.now ≡ pattern side rule
   pub among : take (length one.bytes.now) (drop one.start bytes) ≡ one.bytes.now
   pub within : one.start + length one.bytes.now ≤ length bytes
+  pub small : (k : ℕ) → slice_index one.bytes.now k < 256
   pub stands_for : one.answer ≡ 4 * place + type_number rule.kind
 
 -- a pattern of a rule that acts on the side
@@ -145,9 +147,14 @@ pub record IsPattern (side : Side) (rules : List MappingRule) (bytes : List ℕ)
   pub place : ℕ
   pub is : IsPatternAt side rules bytes place one
 
+-- what names of that side are compared with
+abbrev pub patterns_on : Side → List MappingRule → List (List ℕ)
+patterns_on side rules = map (pattern side) (filter (acts side) rules)
+
 -- the patterns of the rules that act on the side, one for each rule
 pub record ArePatterns (side : Side) (rules : List MappingRule) (bytes : List ℕ) (patterns : List Pattern) : Type
     0 where
+  pub texts : IsPermutation (patterns_on side rules) (map (λ one. one.bytes.now) patterns)
   pub each : All (IsPattern side rules bytes) patterns
   pub every : (place : ℕ) (rule : MappingRule) → slice_get rules place ≡ Some rule → acts side rule ≡ true
       → (one : Pattern) × Contains patterns one × (one.bytes.now ≡ pattern side rule)
@@ -156,6 +163,7 @@ pub record ArePatterns (side : Side) (rules : List MappingRule) (bytes : List �
 -- the patterns of the rules before a place that act on the side, one for each rule
 pub record ArePatternsBelow (side : Side) (rules : List MappingRule) (bytes : List ℕ) (end : ℕ)
     (patterns : List Pattern) : Type 0 where
+  pub texts : patterns_on side (take end rules) ≡ map (λ one. one.bytes.now) patterns
   pub each : All (IsPattern side rules bytes) patterns
   pub every : (place : ℕ) (rule : MappingRule) → place < end → slice_get rules place ≡ Some rule → acts side rule ≡ true
       → (one : Pattern) × Contains patterns one × (one.bytes.now ≡ pattern side rule)
@@ -254,13 +262,9 @@ pub record IsRowOf (node : Node) (row : List ℕ) : Type 0 where
 abbrev pub IsRow : ℕ → ℕ → Node → List ℕ → Type 0
 IsRow first labels node row = IsRowOf (placed first labels node) row
 
--- what names of that side are compared with
-abbrev pub patterns_on : Side → List MappingRule → List (List ℕ)
-patterns_on side rules = map (pattern side) (filter (acts side) rules)
-
 -- how many nodes the trie of a side has, with its holes
 abbrev pub node_count : Side → List MappingRule → ℕ
-node_count side rules = length (text_nodes longest_label (patterns_on side rules))
+node_count side rules = nodes_in_all (patterns_on side rules)
 
 -- the nodes are a trie of the patterns of that side, whose labels stand among the bytes, and of few rules
 pub record IsTrieWith (side : Side) (rules : List MappingRule) (nodes : List Node) (bytes : List ℕ) : Type 0 where

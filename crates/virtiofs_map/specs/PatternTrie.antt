@@ -1,8 +1,8 @@
--- The trie of some texts: its text nodes, level by level. A text is bytes, none of them zero.
-use Rattle.std.specs.Prelude.{ℕ, zero, suc, ◌+◌, ◌-◌, ◌*◌, nat_lt, nat_eq, Bool, if◌then◌else◌, List, [], ◌∷◌, ◌++◌}
-use Rattle.std.specs.Prelude.{length, take, drop, filter, map, max, Option, Some, None}
+-- How many nodes the trie of some texts has. A text is bytes, none of them zero.
+use Rattle.std.specs.Prelude.{ℕ, zero, suc, ◌+◌, ◌-◌, ◌*◌, nat_lt, nat_eq, Bool, ◌&&◌, not, if◌then◌else◌, List, []}
+use Rattle.std.specs.Prelude.{◌∷◌, ◌++◌, length, filter, sum_by}
 use Rattle.virtiofs_map.specs.Names.{begins}
-use Rattle.std.specs.List.{list_any, flat_map, fold, range_with_len}
+use Rattle.std.specs.List.{list_any, range_with_len}
 
 -- ---- paths
 
@@ -10,51 +10,15 @@ use Rattle.std.specs.List.{list_any, flat_map, fold, range_with_len}
 unfoldable pub leads : List (List ℕ) → List ℕ → Bool
 leads texts path = list_any (begins path) texts
 
+-- some text is the path
+unfoldable pub ends : List (List ℕ) → List ℕ → Bool
+ends texts path = list_any (λ text. begins path text && nat_eq (length text) (length path)) texts
+
 -- the bytes that lead on from the path, the lowest first
 unfoldable pub next_bytes : List (List ℕ) → List ℕ → List ℕ
 next_bytes texts path = filter (λ byte. leads texts (path ++ byte ∷ [])) (range_with_len 1 255)
 
--- what two texts begin with
-abbrev pub common_of_two : List ℕ → List ℕ → List ℕ
-common_of_two [] other = []
-common_of_two (x ∷ one) [] = []
-common_of_two (x ∷ one) (y ∷ other) = if nat_eq x y then x ∷ common_of_two one other else []
-
--- what all the texts begin with
-unfoldable pub common : List (List ℕ) → List ℕ
-common [] = []
-common (text ∷ texts) = fold common_of_two text texts
-
--- the most bytes of a label
-unfoldable pub longest_label : ℕ
-longest_label = 255
-
--- what all the texts that begin with the path go on with, but no more than so many bytes
-unfoldable pub label_after : ℕ → List (List ℕ) → List ℕ → List ℕ
-label_after most texts path = take most (drop (length path) (common (filter (begins path) texts)))
-
--- ---- text nodes
-
--- the path to a text node, the byte with which its last step begins (0 for the root), and how many bytes of the path
--- are the label after that byte
-pub record TextNode : Type 0 where
-  pub path : List ℕ
-  pub byte : ℕ
-  pub size : ℕ
-
-abbrev pub root : TextNode
-root = record { path = []; byte = 0; size = 0 }
-
--- the text node to which the byte leads with that label
-abbrev pub text_node_after : List ℕ → ℕ → List ℕ → TextNode
-text_node_after path byte label = record { path = path ++ byte ∷ label; byte = byte; size = length label }
-
--- the child of a path for a byte; none where the byte leads nowhere
-unfoldable pub child : ℕ → List (List ℕ) → List ℕ → ℕ → Option TextNode
-child most texts path byte =
-    if leads texts (path ++ byte ∷ [])
-    then Some (text_node_after path byte (label_after most texts (path ++ byte ∷ [])))
-    else None
+-- ---- places of children
 
 -- the last of some bytes
 abbrev pub last_byte : ℕ → List ℕ → ℕ
@@ -71,26 +35,30 @@ abbrev pub are_sparse : List ℕ → Bool
 are_sparse [] = nat_lt 1 0
 are_sparse (low ∷ bytes) = nat_lt (2 * length (low ∷ bytes) + 4) (span low bytes)
 
--- the bytes that have a place among the children: those that lead on, and where these are not sparse all between them
-unfoldable pub slots : List ℕ → List ℕ
-slots [] = []
-slots (low ∷ bytes) = if are_sparse (low ∷ bytes) then low ∷ bytes else range_with_len low (span low bytes)
+-- how many places their children have: one for each, and where they are not sparse one for each byte between them too
+unfoldable pub places : List ℕ → ℕ
+places [] = 0
+places (low ∷ bytes) = if are_sparse (low ∷ bytes) then length (low ∷ bytes) else span low bytes
 
--- the places of a text node's children; where no byte leads there, a hole
-unfoldable pub children : ℕ → List (List ℕ) → Option TextNode → List (Option TextNode)
-children most texts None = []
-children most texts (Some text_node) = map (child most texts text_node.path) (slots (next_bytes texts text_node.path))
+-- ---- nodes
 
--- so many levels from one on
-abbrev pub levels : {X : Type 0} → (X → List X) → ℕ → List X → List X
-levels below zero level = []
-levels below (suc more) level = level ++ levels below more (flat_map below level)
+-- the most bytes of a label
+unfoldable pub longest_label : ℕ
+longest_label = 255
 
--- the length of the longest text
-abbrev pub longest_of : List (List ℕ) → ℕ
-longest_of [] = 0
-longest_of (text ∷ texts) = max (length text) (longest_of texts)
+-- a label that may have so many bytes more goes on after the path: no text ends there, and one byte leads on
+unfoldable pub goes_on : ℕ → List (List ℕ) → List ℕ → Bool
+goes_on room texts path = nat_lt 0 room && not (ends texts path) && nat_eq (length (next_bytes texts path)) 1
 
--- the text nodes and holes of the trie, level by level
-unfoldable pub text_nodes : ℕ → List (List ℕ) → List (Option TextNode)
-text_nodes most texts = levels (children most texts) (suc (longest_of texts)) (Some root ∷ [])
+-- how many places are below a path, in so many levels of bytes, where a label may go on for so many bytes
+unfoldable pub places_below : ℕ → ℕ → List (List ℕ) → List ℕ → ℕ
+places_below zero room texts path = 0
+places_below (suc levels) room texts path =
+    if goes_on room texts path
+    then sum_by (λ byte. places_below levels (room - 1) texts (path ++ byte ∷ [])) (next_bytes texts path)
+    else places (next_bytes texts path)
+    + sum_by (λ byte. places_below levels longest_label texts (path ++ byte ∷ [])) (next_bytes texts path)
+
+-- how many nodes and holes the trie has: the root, and what is below it
+unfoldable pub nodes_in_all : List (List ℕ) → ℕ
+nodes_in_all texts = 1 + places_below (suc (sum_by length texts)) 0 texts []

@@ -1,26 +1,28 @@
 -- What holds while a trie of patterns is built. Only private functions cite these definitions.
-use Rattle.std.specs.Prelude.{◌≡◌, ◌≢◌, ◌⊎◌, ℕ, ◌+◌, ◌<◌, ◌≤◌, false, List, [], length, take, All}
-use Rattle.std.specs.Prelude.{suc, ◌∷◌, map, Option, Some, None, slice_get, ◌==◌, ◌&&◌, not, if◌then◌else◌}
+use Rattle.std.specs.Prelude.{◌≡◌, ◌≢◌, ◌⊎◌, ℕ, ◌+◌, ◌-◌, ◌<◌, ◌≤◌, Bool, false, List, [], length, take, All}
+use Rattle.std.specs.Prelude.{suc, map, Some, slice_get, slice_index, sum_by, ◌==◌, ◌&&◌, not, if◌then◌else◌}
 use Rattle.std.specs.Option.{option_map_or}
 use Rattle.virtiofs_map.specs.NodeParts.{no_answer, AreInOrder, AreRowsOf}
-use Rattle.virtiofs_map.specs.PatternTrie.{TextNode, root}
-use Rattle.virtiofs_map.specs.TrieParts.{node_with, children_of}
-use Rattle.std.specs.List.{flat_map}
+use Rattle.virtiofs_map.specs.PatternTrie.{nodes_in_all, places_below}
 use Rattle.virtiofs_map.specs.declared.xattrmap.trie.node.Node.{Node}
 use Rattle.virtiofs_map.specs.declared.xattrmap.trie.build.PatternRange.{PatternRange}
 use Rattle.virtiofs_map.specs.declared.xattrmap.trie.patterns.Pattern.{Pattern}
 
 -- ---- patterns
 
--- a pattern ends at or before that byte of all bytes, and has no zero
+-- a pattern ends at or before that byte of all bytes, and has bytes, but no zero
 pub record IsReady (most : ℕ) (one : Pattern) : Type 0 where
   pub within : one.start + length one.bytes.now ≤ most
   pub full : All (λ byte. byte ≢ 0) one.bytes.now
+  pub small : (k : ℕ) → slice_index one.bytes.now k < 256
 
 -- patterns of which a trie can be made
 pub record AreReady (most : ℕ) (patterns : List Pattern) : Type 0 where
   pub each : All (IsReady most) patterns
   pub order : AreInOrder patterns
+
+abbrev pub texts_of : List Pattern → List (List ℕ)
+texts_of patterns = map (λ one. one.bytes.now) patterns
 
 -- the bytes of the pattern at a place
 unfoldable pub text : List Pattern → ℕ → List ℕ
@@ -82,16 +84,9 @@ pub record IsHole (range : PatternRange) : Type 0 where
   pub empty : range.low ≡ range.high
   pub first_byte : range.first_byte ≡ 0
 
--- some pattern has at least that length
-pub record IsReached (patterns : List Pattern) (depth : ℕ) : Type 0 where
-  pub at : ℕ
-  pub within : at < length patterns
-  pub long : depth ≤ length (text patterns at)
-
 -- the place has a range or is a hole, and its numbers are within their bounds
 pub record IsRangeOrHole (patterns : List Pattern) (range : PatternRange) : Type 0 where
   pub is : IsPatternRange patterns range ⊎ IsHole range
-  pub deep : (range.depth ≡ 0) ⊎ IsReached patterns range.depth
   pub label : range.length ≤ range.depth
   pub size : range.length < 256
   pub answer : range.answer ≤ no_answer
@@ -105,25 +100,67 @@ pub record AreRangesOrHoles (patterns : List Pattern) (ranges : List PatternRang
 pub record IsLonger (old new : List PatternRange) : Type 0 where
   pub longer : length old ≤ length new
   pub same : (at : ℕ) → at < length old → slice_get new at ≡ slice_get old at
+  pub front : (count : ℕ) → count ≤ length old → take count new ≡ take count old
 
 -- the path of a range
 abbrev pub path_of_range : List Pattern → PatternRange → List ℕ
 path_of_range patterns range = take range.depth (text patterns range.low)
 
--- the text node that has the patterns of a range; none for a hole
-unfoldable pub text_node_of : List Pattern → PatternRange → Option TextNode
-text_node_of patterns range =
+-- how many places are below a range; none below a hole
+unfoldable pub below : List Pattern → PatternRange → ℕ
+below patterns range =
     if (range.low == range.high) && not (range.depth == 0)
-    then None
-    else Some record { path = path_of_range patterns range; byte = range.first_byte; size = range.length }
+    then 0
+    else places_below (suc (sum_by length (texts_of patterns)) - range.depth) 0 (texts_of patterns)
+    (path_of_range patterns range)
 
 -- ---- children
 
--- children of a range were appended to the places
-pub record AreAdded (patterns : List Pattern) (old new : List PatternRange) (range : PatternRange) : Type 0 where
+-- the byte with which the pattern at a place goes on after the path of a range; 0 where it ends there
+abbrev pub next_of : List Pattern → PatternRange → ℕ → ℕ
+next_of patterns range i = slice_index (text patterns i) range.depth
+
+-- a child has the patterns of a range that go on with its byte
+pub record IsKid (patterns : List Pattern) (range kid : PatternRange) : Type 0 where
+  pub from : range.low ≤ kid.low
+  pub some : kid.low < kid.high
+  pub upto : kid.high ≤ range.high
+  pub depth : kid.depth ≡ range.depth + 1 + kid.length
+  pub first_byte : kid.first_byte ≡ next_of patterns range kid.low
+  pub group : (i : ℕ) → range.low ≤ i → i < range.high → next_of patterns range i ≡ next_of patterns range kid.low
+      → (kid.low ≤ i) × (i < kid.high)
+
+-- the byte leads to one of the places from one on and before another
+pub record HasKid (ranges : List PatternRange) (first last byte : ℕ) : Type 0 where
+  pub at : ℕ
+  pub kid : PatternRange
+  pub from : first ≤ at
+  pub before : at < last
+  pub here : slice_get ranges at ≡ Some kid
+  pub first_byte : kid.first_byte ≡ byte
+
+-- these places have the children of a range for its patterns before one, and holes; where they are not sparse, each
+-- child stands as far behind the first place as its byte behind the lowest
+pub record AreKids (patterns : List Pattern) (ranges : List PatternRange) (range : PatternRange)
+    (first last lowest : ℕ) (is_sparse : Bool) (upto : ℕ) : Type 0 where
+  pub kids : (at : ℕ) (kid : PatternRange) → first ≤ at → at < last → slice_get ranges at ≡ Some kid
+      → kid.first_byte ≢ 0 → IsKid patterns range kid
+  pub placed : is_sparse ≡ false → (at : ℕ) (kid : PatternRange) → first ≤ at → at < last
+      → slice_get ranges at ≡ Some kid → kid.first_byte ≢ 0 → kid.first_byte + first ≡ lowest + at
+  pub complete : (i : ℕ) → range.low ≤ i → i < upto → range.depth < length (text patterns i)
+      → HasKid ranges first last (next_of patterns range i)
+
+-- children of a range for its patterns before one were appended to the places
+pub record AreAdded (patterns : List Pattern) (old new : List PatternRange) (range : PatternRange) (lowest : ℕ)
+    (is_sparse : Bool) (upto : ℕ) : Type 0 where
   pub longer : IsLonger old new
   pub places : (at : ℕ) (kid : PatternRange) → length old ≤ at → slice_get new at ≡ Some kid → IsRangeOrHole patterns kid
-  pub deeper : (at : ℕ) (kid : PatternRange) → length old ≤ at → slice_get new at ≡ Some kid → range.depth < kid.depth
+  pub kids : AreKids patterns new range (length old) (length new) lowest is_sparse upto
+
+-- so many places were appended, and as many as are below these
+abbrev pub Adds : List Pattern → List PatternRange → List PatternRange → ℕ → Type 0
+Adds patterns old new count =
+    length new + sum_by (below patterns) new ≡ length old + sum_by (below patterns) old + count
 
 -- ---- nodes
 
@@ -142,46 +179,46 @@ childless_of range base answer label =
       is_sparse = false;
     }
 
--- the node names the least answer of the patterns that begin the path of the range
-pub record IsBuilt (patterns : List Pattern) (range : PatternRange) (node : Node) : Type 0 where
+-- the node of a range: it names the least answer of the patterns that begin the path of the range, and its children
+-- stand among the places
+pub record IsBuilt (patterns : List Pattern) (ranges : List PatternRange) (range : PatternRange) (node : Node) : Type
+    0 where
+  pub answer : node.answer ≤ no_answer
+  pub first_byte : node.first_byte ≡ range.first_byte
+  pub size : node.length ≡ range.length
+  pub label : range.low < range.high → node.label + range.length ≡ start_of patterns range.low + range.depth
+  pub bare : range.low ≡ range.high → node.label ≡ 0
+  pub within : node.base + node.width ≤ length ranges
+  pub low_byte : 1 ≤ node.low_byte
+  pub high : node.low_byte + node.width ≤ 256
   pub least : IsPatternRange patterns range → IsLeast patterns (IsUpto patterns range) node.answer
-  pub bare : range.low ≡ range.high → node.answer ≡ range.answer
+  pub kids : IsPatternRange patterns range
+      → AreKids patterns ranges range node.base (node.base + node.width) node.low_byte node.is_sparse range.high
 
--- the first places have nodes
+-- the first places have nodes, the very first that of the root
 pub record AreBuilt (patterns : List Pattern) (ranges : List PatternRange) (nodes : List Node) : Type 0 where
   pub counted : length nodes ≤ length ranges
+  pub some : 0 < length ranges
+  pub root : (range : PatternRange) → slice_get ranges 0 ≡ Some range → range.depth ≡ 0
   pub each : (at : ℕ) (range : PatternRange) (node : Node) → slice_get ranges at ≡ Some range
-      → slice_get nodes at ≡ Some node → IsBuilt patterns range node
+      → slice_get nodes at ≡ Some node → IsBuilt patterns ranges range node
 
--- the text nodes of the places stand level by level, as far as they have nodes, and each node is that of its text node
-pub record AreExact (patterns : List Pattern) (ranges : List PatternRange) (nodes : List Node) : Type 0 where
-  pub order : map (text_node_of patterns) ranges
-      ≡ Some root ∷ flat_map (children_of patterns) (take (length nodes) (map (text_node_of patterns) ranges))
-  pub exact : (at : ℕ) (range : PatternRange) (node : Node) → slice_get ranges at ≡ Some range
-      → slice_get nodes at ≡ Some node
-      → node
-      ≡ node_with patterns node.answer
-      (suc (length (flat_map (children_of patterns) (take at (map (text_node_of patterns) ranges))))) (text_node_of patterns range)
-
--- the first places have nodes, so many, and the rows are those of these
+-- the first places have nodes, so many, the rows are those of these, and with what is below the others the places are
+-- as many as nodes are to be in all
 pub record AreMade (patterns : List Pattern) (ranges : List PatternRange) (rows : List ℕ) (first count : ℕ) : Type
     0 where
   pub nodes : List Node
   pub counted : count ≡ length nodes
   pub built : AreBuilt patterns ranges nodes
-  pub exact : AreExact patterns ranges nodes
+  pub total : length ranges + sum_by (below patterns) ranges
+      ≡ nodes_in_all (texts_of patterns) + sum_by (below patterns) (take count ranges)
   pub rows_of : AreRowsOf rows first nodes
-
--- the places from there on are at least so deep
-pub record AreDeep (ranges : List PatternRange) (from depth : ℕ) : Type 0 where
-  pub deep : (at : ℕ) (range : PatternRange) → from ≤ at → slice_get ranges at ≡ Some range → depth ≤ range.depth
 
 -- the node of a range was made, and its children were appended to the places
 pub record IsExpanded (patterns : List Pattern) (old new : List PatternRange) (range : PatternRange) (node : Node) : Type 0 where
   pub longer : IsLonger old new
   pub places : AreRangesOrHoles patterns new
-  pub built : IsBuilt patterns range node
-  pub deeper : AreDeep new (length old) (range.depth + 1)
+  pub built : IsBuilt patterns new range node
 
 -- a hole at that depth
 abbrev pub hole : ℕ → PatternRange
@@ -191,3 +228,4 @@ hole depth = record { low = 0; high = 0; depth = depth; length = 0; answer = no_
 pub record AreHoles (old new : List PatternRange) (depth : ℕ) : Type 0 where
   pub longer : IsLonger old new
   pub holes : (at : ℕ) (range : PatternRange) → length old ≤ at → slice_get new at ≡ Some range → range ≡ hole depth
+  pub bare : (patterns : List Pattern) → depth ≢ 0 → sum_by (below patterns) new ≡ sum_by (below patterns) old

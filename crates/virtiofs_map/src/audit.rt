@@ -44,17 +44,17 @@ mod deciding;
 mod gathered;
 mod least;
 mod ordered;
+mod question;
 mod questions;
 mod reach;
 mod terminated;
 
 use crate::steps::Steps;
-use crate::xattrmap::{Side, XattrMap, XattrName};
+use crate::xattrmap::{XattrMap, XattrName};
 pub use answer::Audit;
 pub use asking::{NameFault, ask};
-use candidates::try_guest_names;
-use least::Tried;
-use questions::{Asked, Question};
+use candidates::least_guest_name;
+use question::Question;
 use std::alloc::{AllocError, Allocator};
 
 /// Whether each non-empty name that passes is listed back: if the host's list has only the host
@@ -91,15 +91,9 @@ pub fn audit_counted<A: Allocator + Copy>(
     ensures counted { OnOk result (CountsBetween 1 (most_tried map.now) steps.old steps.new) }
     ensures uncounted { OnErr result (steps.new ≡ steps.old) }
 {
-    let map = map.as_ref();
-    let question = Question {
-        asked: Asked::Lost(map),
-        beginning: XattrName { bytes: &[] },
-    };
-    let mut tried = Tried::new(alloc);
-    try_guest_names(alloc, &question, map, map, Side::Server, &mut tried)?;
-    steps.add(tried.steps());
-    Ok(tried.into_answer())
+    let (map, all) = (map.as_ref(), XattrName { bytes: &[] });
+    let question = Question::new(alloc, NameFault::Lost, map, map, all)?;
+    least_guest_name(alloc, &question, steps)
 }
 
 /// Whether the second map (`q`) hides every non-empty host name that a guest with the first map

@@ -4,6 +4,7 @@
 //! `map:0:1000:10`. The separator is any character that is not alphanumeric, `-` or `_`.
 
 use std::alloc::{AllocError, AllocFailed, Allocator, Global};
+use std::fmt;
 use std::num::ParseIntError;
 use thiserror::Error;
 
@@ -74,6 +75,44 @@ pub enum IdMap {
     },
 }
 
+/// A specification is printed with its word in lower case, `:` for its separator, and its numbers
+/// in plain decimal.
+impl fmt::Display for IdMap {
+    ghost use Rattle.std.specs.Prelude.{Some};
+    ghost use Rattle.virtiofs_map.specs.Printed.{specification_text};
+
+    ghost output = { λ spec. Some (specification_text spec) };
+
+    fn fmt<W: fmt::Write>(&self, f: &mut fmt::Formatter<W>) -> fmt::Result {
+        match *self {
+            IdMap::Guest {
+                from_guest,
+                to_host,
+                count,
+            } => write!(f, "guest:{from_guest}:{to_host}:{count}"),
+            IdMap::Host {
+                from_host,
+                to_guest,
+                count,
+            } => write!(f, "host:{from_host}:{to_guest}:{count}"),
+            IdMap::SquashGuest {
+                from_guest,
+                to_host,
+                count,
+            } => write!(f, "squash-guest:{from_guest}:{to_host}:{count}"),
+            IdMap::SquashHost {
+                from_host,
+                to_guest,
+                count,
+            } => write!(f, "squash-host:{from_host}:{to_guest}:{count}"),
+            IdMap::Bidirectional { guest, host, count } => write!(f, "map:{guest}:{host}:{count}"),
+            IdMap::ForbidGuest { from_guest, count } => {
+                write!(f, "forbid-guest:{from_guest}:{count}")
+            }
+        }
+    }
+}
+
 /// Why a text is no specification.
 #[derive(Debug, Drop, Error)]
 pub enum IdMapError<A: Allocator = Global> {
@@ -128,5 +167,4 @@ impl<T: Drop, A: Allocator> From<AllocFailed<T>> for IdMapError<A> {
 }
 
 pub mod laws;
-mod printed;
 mod reader;

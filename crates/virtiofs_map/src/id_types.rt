@@ -39,14 +39,11 @@ ghost use Rattle.std.specs.Ordering.{nat_cmp};
 use std::fmt::{Debug, Display};
 use std::ops::{Add, Sub};
 
-// `uids` and `gids` differ in names alone, as tests/must_not_compile/run.py of the repository checks.
-mod gids;
+mod ids;
 mod numbers;
-mod uids;
 
-pub use gids::{GidOffset, GuestGid, HostGid};
+pub use ids::{GidOffset, GuestGid, GuestUid, HostGid, HostUid, UidOffset};
 pub use numbers::{IdNumber, IdOffset};
-pub use uids::{GuestUid, HostUid, UidOffset};
 
 /// A user or group id, of either side.
 ///

@@ -78,6 +78,7 @@ impl UidMap {
     /// fields between the first and the last delimiter, it is [`IdMapError::IncompleteMap`]. If a
     /// field is not a number from 0 to 4294967295, it is [`IdMapError::InvalidValue`]. A number is
     /// an optional `+`, and then one or more decimal digits; leading zeros are allowed.
+    #[tactic(auto, using(crate::proofs::NamespaceLemmas::one_reading))]
     pub fn from_str(text: &str) -> Result<UidMap, IdMapError>
         ensures read { IfOk result (λ map.
             SaysNamespace (chars text.now) map.inside_uid map.outside_uid map.count) }
@@ -107,6 +108,7 @@ impl GidMap {
 
     /// Reads a range of group ids, from the same texts and with the same errors as
     /// [`UidMap::from_str`]. It takes no memory.
+    #[tactic(auto, using(crate::proofs::NamespaceLemmas::one_reading))]
     pub fn from_str(text: &str) -> Result<GidMap, IdMapError>
         ensures read { IfOk result (λ map.
             SaysNamespace (chars text.now) map.inside_gid map.outside_gid map.count) }

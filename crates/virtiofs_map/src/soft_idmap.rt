@@ -87,6 +87,7 @@ impl<Guest: GuestId<HostType = Host>, Host: HostId<GuestType = Guest>, A: Alloca
     /// The map of no specification, which maps every number to itself.
     ///
     /// It does not allocate.
+    #[tactic(auto, using(crate::proofs::WordLemmas::what_is_lent))]
     pub fn empty(alloc: A) -> Self
         ensures { result ≡ [] }
     {
@@ -113,6 +114,7 @@ impl<Guest: GuestId<HostType = Host>, Host: HostId<GuestType = Guest>, A: Alloca
     ///
     /// A specification with a count of 0 passes each test. If an allocation fails, the error is
     /// [`IdMapBuildError::OutOfMemory`].
+    #[tactic(auto, using(crate::proofs::MappingLawLemmas::what_is_built))]
     pub fn try_from(alloc: A, specs: Vec<cmdline::IdMap, A>) -> Result<Self, IdMapBuildError>
         ensures read { IfOk result (λ map. map ≡ specs.items) }
         ensures accepted { OnOk result (Accepted specs.items) }
@@ -145,6 +147,7 @@ impl<Guest: GuestId<HostType = Host>, Host: HostId<GuestType = Guest>, A: Alloca
     /// If an allocation fails, the error is either [`SpecsError::Spec`] with
     /// [`cmdline::IdMapError::OutOfMemory`] and the index of some text, where all texts before that
     /// one are specifications; or [`SpecsError::Build`] with [`IdMapBuildError::OutOfMemory`].
+    #[tactic(auto, using(crate::proofs::SpecificationsLemmas::what_is_read))]
     pub fn from_specs(alloc: A, texts: &[&str]) -> Result<Self, SpecsError<A>>
         ensures read { IfOk result (AllSay (texts_of texts.now)) }
         ensures accepted { IfOk result Accepted }
@@ -271,6 +274,7 @@ impl<Guest: GuestId<HostType = Host>, Host: HostId<GuestType = Guest>, A: Alloca
     }
 
     /// The ranges of a direction.
+    #[tactic(auto, using(crate::proofs::WordLemmas::what_is_lent))]
     fn ranges(&self, direction: Direction) -> Ranges<'_>
         ensures accepted { Accepted self.now }
         ensures ranges { HasRanges self.now direction result }

@@ -24,6 +24,7 @@ pub(crate) fn is_alphanumeric(c: char) -> bool
 
 /// Cuts a text at the first character `at`, which belongs to neither part. The part before it does
 /// not contain that character; the part after it may.
+#[tactic(auto, using(crate::proofs::CutLemmas::first_cut))]
 pub(crate) fn cut_at(text: &str, at: char) -> Option<(&str, &str)>
     ensures absent { IfNone result (Lacks at (chars text.now)) }
     ensures whole { IfSome result (λ p. chars text.now ≡ chars p.0.now ++ at ∷ chars p.1.now) }
@@ -38,6 +39,7 @@ pub(crate) fn cut_at(text: &str, at: char) -> Option<(&str, &str)>
 /// 4294967295. Every reader of this crate reads numbers so. It takes no memory.
 ///
 /// The error is the one that `str::parse` has for a `u32`.
+#[tactic(auto, using(crate::proofs::NumeralLemmas::numeral_from_parse))]
 pub fn number(text: &str) -> Result<u32, ParseIntError>
     ensures read { IfOk result (λ value. IsNumeral (chars text.now) value) }
     ensures complete { (value : ℕ) → IsNumeral (chars text.now) value

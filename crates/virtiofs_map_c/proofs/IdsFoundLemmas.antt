@@ -8,12 +8,13 @@ use Rattle.virtiofs_map.specs.Build.{BuildFault, HasFirstFault}
 use Rattle.virtiofs_id_audit.specs.IdAudit.{IsLeastId, GoesTo, GoesInto, Between}
 use Rattle.virtiofs_map.specs.Refusal.{OutOfMemoryOr}
 use Rattle.virtiofs_map.specs.declared.cmdline.IdMap.{IdMap as Specification}
-use Rattle.virtiofs_map_c.specs.Arrays.{AreSaid, ArrayFault, UnbuiltArray, HasArrayFault, place_of, counted_on}
-use Rattle.virtiofs_map_c.specs.IdsFound.{FindsLeast, OfArray, OfArrays, TellsAudit, HasFaultAfter}
+use Rattle.virtiofs_map_c.specs.Arrays.{AreSaid, ArrayFault, HasArrayFault, place_of, counted_on}
+use Rattle.virtiofs_map_c.specs.IdsFound.{FindsLeast, OfArray, TellsAudit, HasFaultAfter}
 use Rattle.virtiofs_map_c.specs.IdsFound.{HasPairFault, IsWritten}
+use Rattle.virtiofs_map_c.specs.Lists.{Unbuilt}
 use Rattle.virtiofs_map_c.specs.Makes.{IsAccepted}
-use Rattle.virtiofs_map_c.specs.declared.arrays.spec.Spec.{Spec}
-use Rattle.virtiofs_map_c.specs.declared.ids.found.IdsFound.{IdsFound}
+use Rattle.virtiofs_map_c.specs.declared.arrays.Spec.{Spec}
+use Rattle.virtiofs_map_c.specs.declared.ids.decided.IdsFound.{IdsFound}
 use Rattle.virtiofs_map_c.proofs.ArraysLemmas.{AreSaid-long, AreSaid-one, IsAccepted-no_fault, HasArrayFault-one}
 
 -- ---- ids that become one id of the host
@@ -34,7 +35,7 @@ least_to specs host n least = record {
 -- ---- a fault's place
 
 place_of_build : (list : List Specification) (fault : BuildFault) → HasFirstFault list fault
-    → place_of (UnbuiltArray fault) < length list
+    → place_of (Unbuilt fault) < length list
 place_of_build list fault has = grind (arith, slice_get_within)
 
 get_within : (found : Option Spec) (specs : List Spec) (i : ℕ) (P : Spec → Type 0)
@@ -81,8 +82,3 @@ tells_yes Good least is_there old new written same = grind arith
 pub of_array : (specs : List Spec) (P : List Specification → Type 0) → OfArray specs P
     → (list : List Specification) → AreSaid specs list → P list
 of_array specs P of list are = search (rules, AreSaid-one)
-
-pub of_arrays : (specs others : List Spec) (P : List Specification → List Specification → Type 0)
-    → OfArrays specs others P
-    → (list other : List Specification) → AreSaid specs list → AreSaid others other → P list other
-of_arrays specs others P of list other are other_are = search (rules, AreSaid-one)

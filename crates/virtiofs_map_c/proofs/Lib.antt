@@ -1,8 +1,8 @@
 mod ArraysLemmas
-mod FirstLemmas
 mod FrontLemmas
 mod IdsFoundLemmas
 mod IdsLemmas
+mod ListsLemmas
 mod MakesLemmas
 mod NamesLemmas
 mod QuoteLemmas

@@ -7,14 +7,10 @@ use Rattle.virtiofs_map.specs.declared.soft_idmap.entry.Direction.{Direction}
 use Rattle.virtiofs_map.specs.declared.soft_idmap.entry.Direction.TheVariants.{GuestToHost, HostToGuest}
 use Rattle.virtiofs_map.specs.declared.soft_idmap.errors.RangeEnd.{RangeEnd}
 use Rattle.virtiofs_map.specs.declared.soft_idmap.errors.RangeEnd.TheVariants.{Source, Target}
-use Rattle.virtiofs_map_c.specs.Arrays.{spec_as_c, ArrayFault, UnknownKind, UnbuiltArray}
+use Rattle.virtiofs_map_c.specs.Arrays.{spec_as_c, ArrayFault}
 use Rattle.virtiofs_map_c.specs.Codes.{no_memory, refused, no_part, specification}
-use Rattle.virtiofs_map_c.specs.declared.arrays.spec.Spec.{Spec}
+use Rattle.virtiofs_map_c.specs.Lists.{Unread, Unbuilt}
 use Rattle.virtiofs_map_c.specs.declared.fault.Fault.{Fault}
-
--- no specification
-abbrev pub no_spec : Spec
-no_spec = record { kind = 0; first = 0; to = 0; count = 0 }
 
 -- a fault of a part at its place, with the bytes that are quoted of the text at fault, and how many it has
 abbrev pub told_at : ℕ → ℕ → ℕ → ℕ → ℕ → Fault
@@ -30,7 +26,7 @@ told_at kind part place quoted wanted =
       seen = 0;
       quoted = quoted;
       wanted = wanted;
-      spec = no_spec;
+      spec = record { kind = 0; first = 0; to = 0; count = 0 };
     }
 
 -- a fault that has nothing but its kind
@@ -75,8 +71,8 @@ build_told (Intersects spec index direction) =
 -- what is told of an array; where there is no fault, that memory ran out
 abbrev pub array_told : Option ArrayFault → Fault
 array_told None = memory_fault
-array_told (Some (UnknownKind index)) = told_at 3 specification index 0 0
-array_told (Some (UnbuiltArray fault)) = build_told fault
+array_told (Some (Unread index cause)) = told_at 3 specification index 0 0
+array_told (Some (Unbuilt fault)) = build_told fault
 
 -- the code of a call that failed; where there is no fault, that memory ran out
 abbrev pub failure_code : {F : Type 0} → Option F → ℕ

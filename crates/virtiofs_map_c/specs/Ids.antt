@@ -8,18 +8,14 @@ use Rattle.virtiofs_map.specs.declared.soft_idmap.row.Answer.{Answer}
 use Rattle.virtiofs_map.specs.declared.soft_idmap.row.Answer.TheVariants as answers
 use Rattle.virtiofs_map_c.specs.Codes.{ok, forbidden, no_map, no_id}
 
--- one of the two numbers is 4294967295, which is no id to Linux
-abbrev pub has_no_id : ℕ → ℕ → Bool
-has_no_id id n = id == 4294967295 || n == 4294967295
-
--- the number that an id becomes is written, but not if one of the two is no id
+-- the number that an id becomes is written, but not if one of the two is 4294967295, which is no id to Linux
 abbrev pub TellsNumber : Bool → ℕ → ℕ → ℕ → ℕ → Type 0
 TellsNumber false n old code new = (code ≡ ok) × (new ≡ n)
 TellsNumber true n old code new = (code ≡ no_id) × (new ≡ old)
 
 -- what an id becomes is told; where its use fails, nothing is written
 abbrev pub TellsId : ℕ → Option ℕ → ℕ → ℕ → ℕ → Type 0
-TellsId id (Some n) old code new = TellsNumber (has_no_id id n) n old code new
+TellsId id (Some n) old code new = TellsNumber (id == 4294967295 || n == 4294967295) n old code new
 TellsId id None old code new = (code ≡ forbidden) × (new ≡ old)
 
 -- what the specifications make of an id is told
@@ -39,6 +35,6 @@ IsIdCode old code new =
 
 -- what is said of the id is told
 abbrev pub IsAnswerTold : Answer → ℕ → ℕ → ℕ → ℕ → Type 0
-IsAnswerTold (answers.Becomes n) id old code new = TellsNumber (has_no_id id n) n old code new
-IsAnswerTold answers.Fails id old code new = (code ≡ forbidden) × (new ≡ old)
+IsAnswerTold (answers.Becomes n) id old code new = TellsId id (Some n) old code new
+IsAnswerTold answers.Fails id old code new = TellsId id None old code new
 IsAnswerTold answers.NoImage id old code new = (code ≡ no_map) × (new ≡ old)

@@ -5,23 +5,15 @@ use Rattle.virtiofs_id_audit.specs.IdAudit.{IsLeastId, GoesTo, WanderTo, SharedA
 use Rattle.virtiofs_map.specs.declared.cmdline.IdMap.{IdMap as Specification}
 use Rattle.virtiofs_map_c.specs.Arrays.{AreSaid, ArrayFault, HasArrayFault, counted_on}
 use Rattle.virtiofs_map_c.specs.Makes.{IsAccepted}
-use Rattle.virtiofs_map_c.specs.declared.arrays.spec.Spec.{Spec}
-use Rattle.virtiofs_map_c.specs.declared.ids.found.IdsFound.{IdsFound}
+use Rattle.virtiofs_map_c.specs.declared.arrays.Spec.{Spec}
+use Rattle.virtiofs_map_c.specs.declared.ids.decided.IdsFound.{IdsFound}
 
 -- ---- the least id
 
--- no id is bad, and nothing is written
-abbrev pub TellsNone : (ℕ → Type 0) → IdsFound → IdsFound → Type 0
-TellsNone bad old new = ((n : ℕ) → ¬ bad n) × (new ≡ old)
-
--- the least id that is bad is written, with what is told of it
-abbrev pub TellsLeastId : (ℕ → Type 0) → (IdsFound → Type 0) → IdsFound → Type 0
-TellsLeastId bad tells new = IsLeastId bad new.guest × tells new
-
--- yes where no id is bad, and else no, with the least one that is
+-- yes where no id is bad, and then nothing is written; and else no, with the least one that is, and what is told of it
 abbrev pub TellsAudit : (ℕ → Type 0) → (IdsFound → Type 0) → Bool → IdsFound → IdsFound → Type 0
-TellsAudit bad tells true old new = TellsNone bad old new
-TellsAudit bad tells false old new = TellsLeastId bad tells new
+TellsAudit bad tells true old new = ((n : ℕ) → ¬ bad n) × (new ≡ old)
+TellsAudit bad tells false old new = IsLeastId bad new.guest × tells new
 
 -- yes where some id reaches, with the least one that does, and else no
 abbrev pub TellsReach : (ℕ → Type 0) → (IdsFound → Type 0) → Bool → IdsFound → IdsFound → Type 0
@@ -72,16 +64,6 @@ pub record OfArray (specs : List Spec) (P : List Specification → Type 0) : Typ
   pub are : AreSaid specs list
   pub accepted : Accepted list
   pub holds : P list
-
--- both arrays say accepted lists, of which that holds
-pub record OfArrays (specs others : List Spec) (P : List Specification → List Specification → Type 0) : Type 0 where
-  pub list : List Specification
-  pub other : List Specification
-  pub are : AreSaid specs list
-  pub other_are : AreSaid others other
-  pub accepted : Accepted list
-  pub other_accepted : Accepted other
-  pub holds : P list other
 
 -- what was found is written, and else nothing is
 abbrev pub IsWritten : Option IdsFound → Bool → IdsFound → IdsFound → Type 0

@@ -4,6 +4,7 @@ pub mod Faults
 pub mod Front
 pub mod Ids
 pub mod IdsFound
+pub mod Lists
 pub mod Makes
 pub mod Names
 pub mod Ranges

@@ -4,11 +4,12 @@ use Rattle.virtiofs_map.specs.Build.{Accepted}
 use Rattle.virtiofs_map.specs.Image.{image_length}
 use Rattle.virtiofs_map.specs.Refusal.{OutOfMemoryOr}
 use Rattle.virtiofs_map.specs.declared.cmdline.IdMap.{IdMap as Specification}
-use Rattle.virtiofs_map_c.specs.Arrays.{ArrayFault, AreSaid}
+use Rattle.virtiofs_map_c.specs.Arrays.{ArrayFault, IsSaid}
 use Rattle.virtiofs_map_c.specs.Codes.{ok, no_room}
 use Rattle.virtiofs_map_c.specs.Faults.{array_told, failure_code}
+use Rattle.virtiofs_map_c.specs.Lists.{SaysAccepted}
 use Rattle.virtiofs_map_c.specs.Wholes.{IsIdMap, cleared}
-use Rattle.virtiofs_map_c.specs.declared.arrays.spec.Spec.{Spec}
+use Rattle.virtiofs_map_c.specs.declared.arrays.Spec.{Spec}
 use Rattle.virtiofs_map_c.specs.declared.fault.Fault.{Fault}
 
 -- a fault that there is, or out of memory, is told
@@ -42,7 +43,5 @@ pub record TellsImage (specs : List Specification) (old : List ℕ) (code wanted
   pub does_not_fit : length old < image_length specs → (code ≡ no_room) × (new ≡ cleared old)
 
 -- the array says an accepted list
-pub record IsAccepted (specs : List Spec) : Type 0 where
-  pub list : List Specification
-  pub are : AreSaid specs list
-  pub accepted : Accepted list
+abbrev pub IsAccepted : List Spec → Type 0
+IsAccepted specs = SaysAccepted IsSaid specs

@@ -11,8 +11,8 @@ use Rattle.virtiofs_map_c.specs.Codes.{no_part, rule}
 use Rattle.virtiofs_map_c.specs.Faults.{no_fault, told_at, failure_code}
 use Rattle.virtiofs_map_c.specs.Replies.{IsQuoted, fitting}
 use Rattle.virtiofs_map_c.specs.declared.fault.Fault.{Fault}
-use Rattle.virtiofs_map_c.specs.declared.names.reading.ReadError.{ReadError}
-use Rattle.virtiofs_map_c.specs.declared.names.reading.ReadError.TheVariants as errors
+use Rattle.virtiofs_map_c.specs.declared.names.made.ReadError.{ReadError}
+use Rattle.virtiofs_map_c.specs.declared.names.made.ReadError.TheVariants as errors
 
 -- the bytes are text, and it says the rules
 abbrev pub BytesSayRules : List ℕ → List MappingRule → Type 0

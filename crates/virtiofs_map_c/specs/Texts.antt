@@ -1,6 +1,5 @@
 -- What texts of specifications in bytes say, what is wrong with those that say nothing, and how it is told.
-use Rattle.std.specs.Prelude.{◌≡◌, ⊤, ℕ, List, [], length, take, slice_get, encode_utf8_all, Option, Some, None}
-use Rattle.std.specs.Prelude.{IsSomeAnd}
+use Rattle.std.specs.Prelude.{◌≡◌, ⊤, ℕ, List, [], length, encode_utf8_all, Option, Some, None}
 use Rattle.std.specs.Borrow.{Bor}
 use Rattle.std.specs.List.{AllZip}
 use Rattle.std.specs.Option.{option_map, option_map_or}
@@ -8,19 +7,19 @@ use Rattle.std.specs.Str.{chars, IsUtf8}
 use Rattle.std.specs.Str.Parse.{error_kind, without_leading_plus, IsParseIntError}
 use Rattle.core.specs.declared.str.parse.IntErrorKind.{IntErrorKind}
 use Rattle.core.specs.declared.str.parse.IntErrorKind.TheVariants.{Empty, PosOverflow}
-use Rattle.virtiofs_map.specs.Build.{Accepted, BuildFault, HasFirstFault, build_fault_of}
 use Rattle.virtiofs_map.specs.SpecificationText.{Says, SpecificationFault, InvalidPrefix, InvalidLength, InvalidValue}
 use Rattle.virtiofs_map.specs.SpecificationText.{HasSpecificationFault, specification_fault_of}
 use Rattle.virtiofs_map.specs.declared.cmdline.IdMap.{IdMap as Specification}
 use Rattle.virtiofs_map.specs.declared.cmdline.IdMapError.TheVariants as spec_errors
 use Rattle.virtiofs_map_c.specs.Codes.{no_part, specification}
 use Rattle.virtiofs_map_c.specs.Faults.{told_at, memory_fault, build_told, number_kind, failure_code}
+use Rattle.virtiofs_map_c.specs.Lists.{ListFault, Unread, Unbuilt, HasListFault, SaysAccepted, list_fault_of}
 use Rattle.virtiofs_map_c.specs.Replies.{IsQuoted, fitting}
 use Rattle.virtiofs_map_c.specs.declared.fault.Fault.{Fault}
-use Rattle.virtiofs_map_c.specs.declared.texts.errors.TextError.{TextError}
-use Rattle.virtiofs_map_c.specs.declared.texts.errors.TextError.TheVariants as text_errors
-use Rattle.virtiofs_map_c.specs.declared.texts.errors.TextsError.{TextsError}
-use Rattle.virtiofs_map_c.specs.declared.texts.errors.TextsError.TheVariants as errors
+use Rattle.virtiofs_map_c.specs.declared.errors.TextError.{TextError}
+use Rattle.virtiofs_map_c.specs.declared.errors.TextError.TheVariants as text_errors
+use Rattle.virtiofs_map_c.specs.declared.errors.ListError.{ListError}
+use Rattle.virtiofs_map_c.specs.declared.errors.ListError.TheVariants.{Element, Build}
 
 -- ---- one text
 
@@ -89,62 +88,53 @@ pub record IsTextTold (code : ℕ) (told : Fault) (old new : List ℕ) (fault : 
 
 -- ---- an array of texts
 
+-- a text that is lent says the specification
+abbrev pub LentSays : Bor (List ℕ) → Specification → Type 0
+LentSays text spec = SaysSpec text.now spec
+
+-- or has that fault
+abbrev pub LentHas : Bor (List ℕ) → TextFault → Type 0
+LentHas text fault = HasTextFault text.now fault
+
 -- each of the texts says the specification at its place
 abbrev pub AllSaySpecs : List (Bor (List ℕ)) → List Specification → Type 0
-AllSaySpecs texts specs = AllZip (λ text spec. SaysSpec text.now spec) texts specs
+AllSaySpecs texts specs = AllZip LentSays texts specs
 
 -- the texts say an accepted list
-pub record AreAccepted (texts : List (Bor (List ℕ))) : Type 0 where
-  pub list : List Specification
-  pub say : AllSaySpecs texts list
-  pub accepted : Accepted list
+abbrev pub AreAccepted : List (Bor (List ℕ)) → Type 0
+AreAccepted texts = SaysAccepted LentSays texts
 
--- the text at that index has that fault, and each text before it says a specification
-pub record HasUnreadText (texts : List (Bor (List ℕ))) (index : ℕ) (fault : TextFault) : Type 0 where
-  pub before : List Specification
-  pub say : AllSaySpecs (take index texts) before
-  pub here : IsSomeAnd (slice_get texts index) (λ text. HasTextFault text.now fault)
-
--- each text says a specification, and the list of these has that first fault
-pub record HasUnbuiltTexts (texts : List (Bor (List ℕ))) (fault : BuildFault) : Type 0 where
-  pub list : List Specification
-  pub say : AllSaySpecs texts list
-  pub first : HasFirstFault list fault
-
--- what is wrong with an array of texts of which no map is made
-pub data TextsFault : Type 0 where
-  UnreadText : ℕ → TextFault → TextsFault
-  UnbuiltTexts : BuildFault → TextsFault
+-- what is wrong with an array of texts of which no map is made: a text has a fault, or the list
+abbrev pub TextsFault : Type 0
+TextsFault = ListFault TextFault
 
 -- the array of texts has that fault
 abbrev pub HasTextsFault : List (Bor (List ℕ)) → TextsFault → Type 0
-HasTextsFault texts (UnreadText index fault) = HasUnreadText texts index fault
-HasTextsFault texts (UnbuiltTexts fault) = HasUnbuiltTexts texts fault
+HasTextsFault texts fault = HasListFault LentSays LentHas texts fault
 
 -- the fault that an error tells; none where a request for memory was refused
-abbrev pub texts_fault_of : TextsError → Option TextsFault
-texts_fault_of (errors.Text place cause) = option_map (UnreadText place) (text_fault_of cause)
-texts_fault_of (errors.Build error) = option_map UnbuiltTexts (build_fault_of error)
+abbrev pub texts_fault_of : ListError TextError → Option TextsFault
+texts_fault_of error = list_fault_of text_fault_of error
 
 -- how an error about a field of a text says that it is no number
-abbrev pub texts_number_error_of : TextsError → IntErrorKind
-texts_number_error_of (errors.Text place cause) = number_error_of cause
-texts_number_error_of (errors.Build error) = Empty
+abbrev pub texts_number_error_of : ListError TextError → IntErrorKind
+texts_number_error_of (Element place cause) = number_error_of cause
+texts_number_error_of (Build error) = Empty
 
 -- what is told of an array of texts of which no map is made, or of out of memory
 abbrev pub texts_told : IntErrorKind → ℕ → Option TextsFault → Fault
 texts_told kind room None = memory_fault
-texts_told kind room (Some (UnreadText index fault)) = fault_told kind specification index room fault
-texts_told kind room (Some (UnbuiltTexts fault)) = build_told fault
+texts_told kind room (Some (Unread index fault)) = fault_told kind specification index room fault
+texts_told kind room (Some (Unbuilt fault)) = build_told fault
 
 -- where the fault is that of a field of a text, this is how it is no number
 abbrev pub IsNumberErrorIn : Option TextsFault → IntErrorKind → Type 0
-IsNumberErrorIn (Some (UnreadText index fault)) kind = IsNumberError (Some fault) kind
+IsNumberErrorIn (Some (Unread index fault)) kind = IsNumberError (Some fault) kind
 IsNumberErrorIn other kind = ⊤
 
 -- what is quoted of an array of texts
 abbrev pub texts_quoted : Option TextsFault → List ℕ
-texts_quoted (Some (UnreadText index fault)) = fault_quoted fault
+texts_quoted (Some (Unread index fault)) = fault_quoted fault
 texts_quoted other = []
 
 -- what is wrong with an array of texts, or out of memory, is told and quoted

@@ -21,10 +21,6 @@ use Rattle.virtiofs_map_c.specs.declared.fault.Fault.{Fault}
 
 -- ---- how a fault is told
 
--- a version, or a revision, that there is not
-abbrev pub version_told : ℕ → ℕ → Fault
-version_told part version = record (told_at 20 part 0 0 0) { seen = version }
-
 -- the kind of what is wrong with an entry
 abbrev pub entry_kind : EntryFault → ℕ
 entry_kind UnknownTag = 23
@@ -36,7 +32,7 @@ entry_kind Merges = 27
 -- why a list does not go across, where room is lent for that many entries
 abbrev pub acl_told : ℕ → AclError → Fault
 acl_told room lists.TooShort = told_at 19 acl_value 0 0 0
-acl_told room (lists.Version version) = version_told acl_value version
+acl_told room (lists.Version version) = record (told_at 20 acl_value 0 0 0) { seen = version }
 acl_told room lists.Length = told_at 21 acl_value 0 0 0
 acl_told room (lists.Room needed) = record (told_at 22 acl_value 0 0 0) { expected = needed; seen = room }
 acl_told room (lists.Entry k fault) = told_at (entry_kind fault) acl_entry k 0 0
@@ -52,7 +48,7 @@ acl_code error = refused
 -- why a capability does not
 abbrev pub capability_told : CapabilityError → Fault
 capability_told capabilities.TooShort = told_at 19 capability_value 0 0 0
-capability_told (capabilities.Revision revision) = version_told capability_value revision
+capability_told (capabilities.Revision revision) = record (told_at 20 capability_value 0 0 0) { seen = revision }
 capability_told capabilities.Length = told_at 21 capability_value 0 0 0
 capability_told capabilities.NoId = told_at 25 capability_value 0 0 0
 capability_told capabilities.Forbidden = told_at 26 capability_value 0 0 0

@@ -8,16 +8,22 @@ ghost use Rattle.virtiofs_map_c.specs.Faults.{build_told, direction_number, memo
 ghost use Rattle.virtiofs_map_c.specs.Codes.{specification};
 ghost use Rattle.virtiofs_map_c.specs.Makes.{IsArrayTold};
 
-mod errors;
-mod spec;
-
 use crate::codes::{NO_MEMORY, REFUSED, SPECIFICATION};
+use crate::errors::{ListError, UnknownKind};
 use crate::fault::Fault;
-pub use errors::ArrayError;
-pub use spec::Spec;
 use std::alloc::Global;
 use virtiofs_map::cmdline;
 use virtiofs_map::soft_idmap::{Direction, IdMapBuildError, RangeEnd};
+
+/// C's `struct virtiofs_spec`.
+#[repr(C)]
+#[derive(Clone, Copy)]
+pub struct Spec {
+    pub kind: u32,
+    pub first: u32,
+    pub to: u32,
+    pub count: u32,
+}
 
 /// The specification that a C struct stands for; `None` where there is no such kind.
 pub fn read(spec: &Spec) -> Option<cmdline::IdMap>
@@ -64,16 +70,22 @@ pub fn read(spec: &Spec) -> Option<cmdline::IdMap>
 }
 
 /// The specifications of an array, in its order. Stops at the first one of an unknown kind.
-pub fn read_all(alloc: Global, specs: &[Spec]) -> Result<Vec<cmdline::IdMap>, ArrayError>
+pub fn read_all(
+    alloc: Global,
+    specs: &[Spec],
+) -> Result<Vec<cmdline::IdMap>, ListError<UnknownKind>>
     ensures read { IfOk result (λ list. AreSaid specs.now list.items) }
     ensures refused { IfErr result (λ e.
         OutOfMemoryOr (array_fault_of e) (HasArrayFault specs.now)) }
 {
     let mut list = Vec::new(alloc);
-    for (index, spec) in specs.iter().enumerate() {
+    for (place, spec) in specs.iter().enumerate() {
         match read(spec) {
             Some(spec) => list.push(spec)?,
-            None => return Err(ArrayError::UnknownKind { index }),
+            None => return Err(ListError::Element {
+                place,
+                cause: UnknownKind,
+            }),
         }
     }
     Ok(list)
@@ -118,29 +130,29 @@ pub fn spec_of(spec: cmdline::IdMap) -> Spec
 }
 
 /// Counts the place of a second array's error on behind those of the first.
-pub fn behind(specs: &[Spec], others: &[Spec], error: &mut ArrayError)
+pub fn behind(specs: &[Spec], others: &[Spec], error: &mut ListError<UnknownKind>)
     requires { IfSome (array_fault_of error.old) (λ fault. place_of fault < length others.now) }
     ensures { array_fault_of error.new
         ≡ option_map (counted_on (length specs.now)) (array_fault_of error.old) }
 {
     let before = specs.len();
     match error {
-        ArrayError::UnknownKind { index } => *index += before,
-        ArrayError::Build(IdMapBuildError::RangeOverflow { index, .. }) => *index += before,
-        ArrayError::Build(IdMapBuildError::Intersects { index, .. }) => *index += before,
-        ArrayError::Build(IdMapBuildError::OutOfMemory) => {}
+        ListError::Element { place, .. } => *place += before,
+        ListError::Build(IdMapBuildError::RangeOverflow { index, .. }) => *index += before,
+        ListError::Build(IdMapBuildError::Intersects { index, .. }) => *index += before,
+        ListError::Build(IdMapBuildError::OutOfMemory) => {}
     }
 }
 
 /// Tells C of an error, and answers its code.
-pub fn tell(error: &ArrayError, fault: &mut Fault) -> u32
+pub fn tell(error: &ListError<UnknownKind>, fault: &mut Fault) -> u32
     ensures { IsArrayTold result fault.new (array_fault_of error.now) }
 {
     match error {
-        ArrayError::UnknownKind { index } => {
-            fault.set(REFUSED, Fault::plain(3, SPECIFICATION, *index))
+        ListError::Element { place, .. } => {
+            fault.set(REFUSED, Fault::plain(3, SPECIFICATION, *place))
         }
-        ArrayError::Build(error) => tell_of_build(error, fault),
+        ListError::Build(error) => tell_of_build(error, fault),
     }
 }
 

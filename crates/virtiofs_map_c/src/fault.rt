@@ -4,31 +4,21 @@ use crate::arrays::Spec;
 use crate::buffer::Quoted;
 use crate::codes::NO_PART;
 
-/// C's `struct virtiofs_fault`: the first fault. What a kind does not use is 0.
+/// C's `struct virtiofs_fault`: the first fault. What a kind does not use is 0. The header says of
+/// each member what it holds.
 #[repr(C)]
 #[derive(Clone, Copy)]
 pub struct Fault {
-    /// What is wrong.
     pub kind: u32,
-    /// Which part of what was handed in is at fault.
     pub part: u32,
-    /// The direction in which a range is at fault.
     pub direction: u32,
-    /// Which range goes too far.
     pub end: u32,
-    /// What is wrong with a field that is no number.
     pub number: u32,
-    /// Which element of a list is at fault, from 0, or which rule, from 1.
     pub place: usize,
-    /// How many numbers a word takes.
     pub expected: usize,
-    /// How many numbers there are.
     pub seen: usize,
-    /// How many bytes of the text at fault were written.
     pub quoted: usize,
-    /// How many bytes the text at fault has.
     pub wanted: usize,
-    /// The specification at fault.
     pub spec: Spec,
 }
 
@@ -59,6 +49,17 @@ impl Fault {
             wanted: 0,
         };
         Fault::at(kind, part, place, none)
+    }
+
+    /// A fault of a part that tells two counts.
+    pub fn counted(kind: u32, part: u32, place: usize, expected: usize, seen: usize) -> Fault
+        ensures { result ≡ record (told_at kind part place 0 0) { expected = expected; seen = seen } }
+    {
+        Fault {
+            expected,
+            seen,
+            ..Fault::plain(kind, part, place)
+        }
     }
 
     /// A fault of a part: its kind, the part and its place, and what is quoted of the text at fault.

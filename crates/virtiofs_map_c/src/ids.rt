@@ -15,19 +15,18 @@ ghost use Rattle.virtiofs_map_c.specs.Wholes.{IsIdMap, IsNoIdMap, cleared};
 
 mod audits;
 mod decided;
-mod found;
 
-use crate::arrays::{ArrayError, Spec, read_all, tell};
+use crate::arrays::{Spec, read_all, tell};
 use crate::codes::{FORBIDDEN, NO_ID, NO_MAP, NO_ROOM, OK};
+use crate::errors::{ListError, TextError, UnknownKind};
 use crate::fault::Fault;
-use crate::texts::{TextsError, read_all as read_texts, tell_of_texts};
+use crate::texts::{read_all as read_texts, tell_of_texts};
 use crate::words::{Words, are_all, clear};
 use std::alloc::Global;
 use virtiofs_map::cmdline;
 use virtiofs_map::soft_idmap::image::{Answer, look_up, most_words, write_image};
 use virtiofs_map::soft_idmap::{Direction, IdMapBuildError};
 
-/// How many words the map of that many specifications has at most.
 #[unsafe(no_mangle)]
 pub extern "C" fn virtiofs_map_ids_bound(count: usize) -> usize
     ensures { result ≡ min (4 + 8 * count) 18446744073709551615 }
@@ -64,7 +63,7 @@ fn make_of_array(
     specs: &[Spec],
     words: &mut [u32],
     wanted: &mut usize,
-) -> Result<u32, ArrayError>
+) -> Result<u32, ListError<UnknownKind>>
     ensures made { IfOk result (λ code. (list : List Specification) × AreSaid specs.now list
         × TellsImage list words.old code wanted.new words.new) }
     ensures bound { IfOk result (λ _. wanted.new ≤ 4 + 8 * length specs.now) }
@@ -77,7 +76,6 @@ fn make_of_array(
     Ok(code)
 }
 
-/// Makes a map of an array of specifications.
 #[unsafe(no_mangle)]
 pub extern "C" fn virtiofs_map_ids_make(
     alloc: Global,
@@ -114,7 +112,7 @@ fn make_of_texts(
     texts: &[&[u8]],
     words: &mut [u32],
     wanted: &mut usize,
-) -> Result<u32, TextsError>
+) -> Result<u32, ListError<TextError>>
     ensures made { IfOk result (λ code. (list : List Specification) × AllSaySpecs texts.now list
         × TellsImage list words.old code wanted.new words.new) }
     ensures bound { IfOk result (λ _. wanted.new ≤ 4 + 8 * length texts.now) }
@@ -129,7 +127,6 @@ fn make_of_texts(
     Ok(code)
 }
 
-/// Makes a map of an array of texts.
 #[unsafe(no_mangle)]
 pub extern "C" fn virtiofs_map_ids_make_texts(
     alloc: Global,
@@ -180,7 +177,6 @@ fn tell_answer(answer: Answer, id: u32, place: &mut u32) -> u32
     OK
 }
 
-/// The host's id for a guest's.
 #[unsafe(no_mangle)]
 pub extern "C" fn virtiofs_map_ids_to_host(words: Words<'_>, guest: u32, host: &mut u32) -> u32
     ensures answer { (specs : List Specification) → IsIdMap specs words.entry.lent.now
@@ -202,7 +198,6 @@ pub extern "C" fn virtiofs_map_ids_to_host(words: Words<'_>, guest: u32, host: &
     tell_answer(answer, guest, host)
 }
 
-/// The guest's id for a host's.
 #[unsafe(no_mangle)]
 pub extern "C" fn virtiofs_map_ids_to_guest(words: Words<'_>, host: u32, guest: &mut u32) -> u32
     ensures answer { (specs : List Specification) → IsIdMap specs words.entry.lent.now

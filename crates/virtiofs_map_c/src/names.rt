@@ -16,7 +16,6 @@ ghost use Rattle.virtiofs_map_c.specs.Wholes.{IsNameMap, IsNoNameMap, cleared};
 
 mod lookups;
 mod made;
-mod reading;
 mod shown;
 
 use crate::buffer::{nothing, write};
@@ -31,7 +30,6 @@ use virtiofs_map::audit::{NameFault, ask};
 use virtiofs_map::xattrmap::image::{decide, is_terminated, most_bytes, write_list};
 use virtiofs_map::xattrmap::{Side, XattrMapRef, XattrName};
 
-/// How many bytes the map of a text of that length has at most.
 #[unsafe(no_mangle)]
 pub extern "C" fn virtiofs_map_names_bound(text_len: usize) -> usize
     ensures bound { result ≡ min (512 + 64 * text_len) 18446744073709551615 }
@@ -41,7 +39,6 @@ pub extern "C" fn virtiofs_map_names_bound(text_len: usize) -> usize
     most_bytes(text_len)
 }
 
-/// Makes a map of a text of rules.
 #[unsafe(no_mangle)]
 pub extern "C" fn virtiofs_map_names_make(
     alloc: Global,
@@ -73,7 +70,6 @@ pub extern "C" fn virtiofs_map_names_make(
     }
 }
 
-/// The host's name for a name that the guest asks for, which stands before the first zero.
 #[unsafe(no_mangle)]
 pub extern "C" fn virtiofs_map_name_to_host_bytes(
     bytes: Bytes<'_>,
@@ -99,8 +95,6 @@ pub extern "C" fn virtiofs_map_name_to_host_bytes(
     tell_client(decision, name.lent, out.lent, len)
 }
 
-/// The list that a daemon hands on to its guest for the host's list: each name that the guest sees,
-/// with a zero behind it, and no empty name.
 #[unsafe(no_mangle)]
 pub extern "C" fn virtiofs_map_list_to_guest(
     bytes: Bytes<'_>,
@@ -116,7 +110,6 @@ pub extern "C" fn virtiofs_map_list_to_guest(
     tell_list(write_shown(all_of(bytes.lent), list.lent, out.lent), len)
 }
 
-/// The guest's name for a name of the host, which stands before the first zero.
 #[unsafe(no_mangle)]
 pub extern "C" fn virtiofs_map_name_to_guest(
     bytes: Bytes<'_>,
@@ -138,8 +131,6 @@ pub extern "C" fn virtiofs_map_name_to_guest(
     }
 }
 
-/// The list that virtiofsd makes for the guest of the host's list: empty names stay in it, and it is
-/// one zero where no name is left.
 #[unsafe(no_mangle)]
 pub extern "C" fn virtiofs_map_server_xattrlist(
     bytes: Bytes<'_>,
@@ -155,7 +146,6 @@ pub extern "C" fn virtiofs_map_server_xattrlist(
     tell_list(write_list(all_of(bytes.lent), list.lent, out.lent), len)
 }
 
-/// Whether no name is ever left without a rule.
 #[unsafe(no_mangle)]
 pub extern "C" fn virtiofs_map_names_is_terminated(bytes: &[u8], all: &mut bool) -> u32
     ensures done { (rules : List MappingRule) → IsNameMap rules bytes.now → result ≡ ok }
@@ -204,7 +194,6 @@ fn ask_all(
     tell(ask(alloc, fault, one, other, beginning), all, out, len)
 }
 
-/// Whether each name that passes is listed back.
 #[unsafe(no_mangle)]
 pub extern "C" fn virtiofs_map_names_audit(
     alloc: Global,
@@ -220,7 +209,6 @@ pub extern "C" fn virtiofs_map_names_audit(
     ask_all(alloc, NameFault::Lost, bytes, bytes, all, out, len)
 }
 
-/// Whether each name of the host that is listed is opened by the name under which it is listed.
 #[unsafe(no_mangle)]
 pub extern "C" fn virtiofs_map_names_audit_listed(
     alloc: Global,
@@ -236,7 +224,6 @@ pub extern "C" fn virtiofs_map_names_audit_listed(
     ask_all(alloc, NameFault::Stray, bytes, bytes, all, out, len)
 }
 
-/// Whether the second map hides every name of the host that a guest with the first map can reach.
 #[unsafe(no_mangle)]
 pub extern "C" fn virtiofs_map_names_keeps_apart(
     alloc: Global,
@@ -256,7 +243,6 @@ pub extern "C" fn virtiofs_map_names_keeps_apart(
     ask_all(alloc, NameFault::Seen, first, second, all, out, len)
 }
 
-/// Whether no name of the host is reached by a guest with the first map and by one with the second.
 #[unsafe(no_mangle)]
 pub extern "C" fn virtiofs_map_names_shares_no_name(
     alloc: Global,

@@ -13,7 +13,6 @@ use escaped::put_escaped;
 use front::{cut_whole, put, put_number};
 use words::{AT_FAULT, end_words, front_words, middle_words, number_at, place_words};
 
-/// Writes the sentence of a fault, as far as there is room, and tells its whole length.
 #[unsafe(no_mangle)]
 pub extern "C" fn virtiofs_map_fault_text(
     fault: &Fault,

@@ -12,18 +12,23 @@ ghost use Rattle.virtiofs_map_c.specs.Ranges.{SaysRange, RangeFault, OfRange, Ha
 ghost use Rattle.virtiofs_map_c.specs.Replies.{IsQuoted};
 ghost use Rattle.virtiofs_map_c.specs.Texts.{SaysSpec, TextFault, HasTextFault, text_fault_of, number_error_of, IsNumberError, IsNumberErrorIn, texts_number_error_of, text_told, text_quoted, IsTextTold, AllSaySpecs, HasTextsFault, texts_fault_of, AreTextsTold};
 
-mod errors;
-mod range;
-
 use crate::arrays::{Spec, spec_of, tell_of_build};
 use crate::buffer::quote;
 use crate::codes::{NO_MEMORY, NO_PART, OK, REFUSED, SPECIFICATION};
+use crate::errors::{ListError, TextError};
 use crate::fault::Fault;
-pub use errors::{TextError, TextsError};
-pub use range::Range;
 use std::alloc::Global;
 use std::num::{IntErrorKind, ParseIntError};
 use virtiofs_map::{cmdline, idmap};
+
+/// C's `struct virtiofs_range`.
+#[repr(C)]
+#[derive(Clone, Copy)]
+pub struct Range {
+    pub inside: u32,
+    pub outside: u32,
+    pub count: u32,
+}
 
 /// The specification that a text in bytes says.
 fn read(alloc: Global, text: &[u8]) -> Result<cmdline::IdMap, TextError>
@@ -43,7 +48,7 @@ fn read(alloc: Global, text: &[u8]) -> Result<cmdline::IdMap, TextError>
 }
 
 /// The specifications that texts say, in their order. Stops at the first text that cannot be read.
-pub fn read_all(alloc: Global, texts: &[&[u8]]) -> Result<Vec<cmdline::IdMap>, TextsError>
+pub fn read_all(alloc: Global, texts: &[&[u8]]) -> Result<Vec<cmdline::IdMap>, ListError<TextError>>
     ensures read { IfOk result (λ list. AllSaySpecs texts.now list.items) }
     ensures refused { IfErr result (λ e.
         OutOfMemoryOr (texts_fault_of e) (HasTextsFault texts.now)) }
@@ -54,22 +59,22 @@ pub fn read_all(alloc: Global, texts: &[&[u8]]) -> Result<Vec<cmdline::IdMap>, T
     for (place, text) in texts.iter().enumerate() {
         match read(alloc, text) {
             Ok(spec) => list.push(spec)?,
-            Err(cause) => return Err(TextsError::Text { place, cause }),
+            Err(cause) => return Err(ListError::Element { place, cause }),
         }
     }
     Ok(list)
 }
 
 /// Tells C why no map is made of texts, and answers the code.
-pub fn tell_of_texts(error: &TextsError, fault: &mut Fault, quoted: &mut [u8]) -> u32
+pub fn tell_of_texts(error: &ListError<TextError>, fault: &mut Fault, quoted: &mut [u8]) -> u32
     requires { IsNumberErrorIn (texts_fault_of error.now) (texts_number_error_of error.now) }
     ensures { AreTextsTold result fault.new quoted.old quoted.new (texts_fault_of error.now) }
 {
     match error {
-        TextsError::Text { place, cause } => {
+        ListError::Element { place, cause } => {
             tell_of_text(cause, SPECIFICATION, *place, fault, quoted)
         }
-        TextsError::Build(error) => tell_of_build(error, fault),
+        ListError::Build(error) => tell_of_build(error, fault),
     }
 }
 
@@ -92,16 +97,7 @@ fn tell_of_text(
             fault.set(REFUSED, Fault::at(6, part, place, quote(word, quoted)))
         }
         TextError::Spec(cmdline::IdMapError::InvalidLength { expected, seen }) => {
-            let (expected, seen) = (*expected, *seen);
-            let told = Fault::plain(7, part, place);
-            fault.set(
-                REFUSED,
-                Fault {
-                    expected,
-                    seen,
-                    ..told
-                },
-            )
+            fault.set(REFUSED, Fault::counted(7, part, place, *expected, *seen))
         }
         TextError::Spec(cmdline::IdMapError::InvalidValue { value, error }) => {
             let number = number_of(error);
@@ -114,7 +110,6 @@ fn tell_of_text(
     }
 }
 
-/// Reads the text of one specification.
 #[unsafe(no_mangle)]
 pub extern "C" fn virtiofs_map_spec_read(
     alloc: Global,
@@ -144,7 +139,6 @@ pub extern "C" fn virtiofs_map_spec_read(
     }
 }
 
-/// Reads the text of one range of a namespace.
 #[unsafe(no_mangle)]
 pub extern "C" fn virtiofs_map_range_read(text: &[u8], range: &mut Range, fault: &mut Fault) -> u32
     ensures read { result ≡ ok →

@@ -22,7 +22,6 @@ use virtiofs_acl::{
 use virtiofs_map::soft_idmap::{Direction, IdMapRef};
 use virtiofs_map::xattrmap::XattrName;
 
-/// Which ids the values of an attribute hold, whose name stands before the first zero.
 #[unsafe(no_mangle)]
 pub extern "C" fn virtiofs_map_carries_ids(name: &[u8]) -> u32
     ensures lists { (result ≡ acl) ↔ HasLists (before_first (λ byte. byte == 0) name.now) }
@@ -68,7 +67,6 @@ fn change_acl(
     tell_acl(answer, lent, fault)
 }
 
-/// Makes an access control list of the guest one of the host, in place.
 #[unsafe(no_mangle)]
 pub extern "C" fn virtiofs_map_acl_to_host(
     users: &[u32],
@@ -88,7 +86,6 @@ pub extern "C" fn virtiofs_map_acl_to_host(
     change_acl(users, groups, Direction::GuestToHost, value, room, fault)
 }
 
-/// Makes an access control list of the host one of the guest, in place.
 #[unsafe(no_mangle)]
 pub extern "C" fn virtiofs_map_acl_to_guest(
     users: &[u32],
@@ -129,7 +126,6 @@ fn change_capability(
     tell_capability(answer, fault)
 }
 
-/// Makes a capability of the guest one of the host, in place.
 #[unsafe(no_mangle)]
 pub extern "C" fn virtiofs_map_capability_to_host(
     users: &[u32],
@@ -146,7 +142,6 @@ pub extern "C" fn virtiofs_map_capability_to_host(
     change_capability(users, Direction::GuestToHost, value, fault)
 }
 
-/// Makes a capability of the host one of the guest, in place.
 #[unsafe(no_mangle)]
 pub extern "C" fn virtiofs_map_capability_to_guest(
     users: &[u32],
@@ -185,7 +180,6 @@ fn write_capability(
     tell_capability(answer, fault)
 }
 
-/// Writes a capability of the guest as one of the host in revision 3.
 #[unsafe(no_mangle)]
 pub extern "C" fn virtiofs_map_capability_to_host_in_revision_3(
     users: &[u32],
@@ -203,7 +197,6 @@ pub extern "C" fn virtiofs_map_capability_to_host_in_revision_3(
     write_capability(users, Direction::GuestToHost, value, written, fault)
 }
 
-/// Writes a capability of the host as one of the guest in revision 3.
 #[unsafe(no_mangle)]
 pub extern "C" fn virtiofs_map_capability_to_guest_in_revision_3(
     users: &[u32],

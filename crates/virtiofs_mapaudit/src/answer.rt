@@ -1,22 +1,21 @@
 //! What is answered to what was asked of guests: a text, and how the program ends.
-ghost use Rattle.std.specs.Prelude.{◌≡◌, ◌≢◌, ◌↔◌, [], IfOk, IfSome, IsTrue, None, length, string_bytes};
+ghost use Rattle.std.specs.Prelude.{◌≡◌, ◌≢◌, [], IfOk, IfSome, IsTrue, None, length, string_bytes};
 ghost use Rattle.virtiofs_findings.specs.Advice.{IsAdvice};
 ghost use Rattle.virtiofs_findings.specs.Audited.{Audits};
-ghost use Rattle.virtiofs_findings.specs.Findings.{IsFound};
 ghost use Rattle.virtiofs_mapaudit.specs.Answers.{EndsAs, Reports, counting};
 
-use crate::json::report_as_json;
-use crate::known::Known;
+use crate::json::as_json;
 use crate::losses::loss_lines;
-use crate::picture::report_as_svg;
-use crate::refusal::refusal_line;
-use crate::text::{options_as_text, report_as_text};
-use std::alloc::{AllocError, Global};
+use crate::picture::as_svg;
+use crate::summary::{Known, refusal_line};
+use crate::text::{as_text, options_as_text};
+use crate::words::{Found, Guest, Made};
+use std::alloc::Global;
 use virtiofs_findings::advice::options::Options;
 use virtiofs_findings::advice::{Advised, advise, tries_of};
 use virtiofs_findings::audit::{Audited, audit_all, has_found};
+use virtiofs_findings::explain::asking::Question;
 use virtiofs_findings::finding::Kind;
-use virtiofs_findings::guest::Guest;
 use virtiofs_findings::refusal::Refusal;
 use virtiofs_options::front::Asked as Front;
 use virtiofs_output::outcome::Answered;
@@ -30,31 +29,10 @@ pub(crate) struct Request<'a> {
     pub(crate) accepted: &'a [Kind],
     /// The names that ids of the host have.
     pub(crate) known: &'a Known,
+    /// What is to be explained; then nothing is looked for.
+    pub(crate) questions: &'a [Question<'a>],
     /// The lines on what is not known of command lines.
     pub(crate) unknown: &'a [String],
-}
-
-/// What does not depend on guests of what was asked.
-#[derive(Drop)]
-pub(crate) struct Wanted {
-    /// The kinds of findings that are accepted.
-    pub(crate) accepted: Vec<Kind>,
-    /// The names that ids of the host have.
-    pub(crate) known: Known,
-}
-
-/// The request for that of guests, where these lines tell what is not known of their command lines.
-pub(crate) fn request_of<'a>(
-    front: Front,
-    wanted: &'a Wanted,
-    unknown: &'a [String],
-) -> Request<'a> {
-    Request {
-        front,
-        accepted: wanted.accepted.as_slice(),
-        known: &wanted.known,
-        unknown,
-    }
 }
 
 /// What is answered.
@@ -75,6 +53,8 @@ pub(crate) struct Answer {
 /// What is reported of guests.
 #[derive(Drop)]
 pub(crate) struct Reported<'a> {
+    /// The guests.
+    pub(crate) guests: &'a [Guest<'a>],
     /// What their options set up, what is found, and what is refused.
     pub(crate) all: Audited<Global>,
     /// What is advised.
@@ -82,10 +62,7 @@ pub(crate) struct Reported<'a> {
 }
 
 /// The lines on texts that are refused.
-pub(crate) fn refusal_lines(
-    alloc: Global,
-    refusals: &[Refusal<Global>],
-) -> Result<Vec<String>, AllocError>
+pub(crate) fn refusal_lines(alloc: Global, refusals: &[Refusal<Global>]) -> Made<Vec<String>>
     ensures { IfOk result (λ lines. length lines.items ≡ length refusals.now) }
 {
     let mut lines = Vec::new(alloc);
@@ -95,57 +72,41 @@ pub(crate) fn refusal_lines(
     Ok(lines)
 }
 
-/// Whether something is found that counts: where options alone are asked for, with those that are written.
-fn is_found(request: Request<'_>, report: &Reported<'_>) -> bool
-    ensures { IsTrue result ↔ IsFound request.entry.accepted.now
-        (counting request.entry.front.mend report.now.all report.now.advised) }
+/// What counts: where options alone are asked for, what is found with those that are written.
+fn counting<'r>(mend: bool, report: &'r Reported<'_>) -> &'r [Found]
+    ensures { result.now ≡ counting mend report.now.all report.now.advised }
 {
     match &report.advised {
-        Some(advised) if request.front.mend => {
-            has_found(request.accepted, advised.findings.as_slice())
-        }
-        _ => has_found(request.accepted, report.all.findings.as_slice()),
+        Some(advised) if mend => advised.findings.as_slice(),
+        _ => report.all.findings.as_slice(),
     }
 }
 
-/// How the program ends, where that is reported.
-fn outcome_of(request: Request<'_>, report: &Reported<'_>) -> Answered
-    ensures { EndsAs request.entry.accepted.now report.now.all.refusals.items
-        (counting request.entry.front.mend report.now.all report.now.advised) result }
+/// How the program ends, where that is refused, and that counts.
+pub(crate) fn outcome_of(
+    accepted: &[Kind],
+    refusals: &[Refusal<Global>],
+    found: &[Found],
+) -> Answered
+    ensures { EndsAs accepted.now refusals.now found.now result }
 {
-    if !report.all.refusals.as_slice().is_empty() {
+    if !refusals.is_empty() {
         return Answered::Refused;
     }
-    if is_found(request, report) {
-        Answered::Found
-    } else {
-        Answered::Given
+    if has_found(accepted, found) {
+        return Answered::Found;
     }
-}
-
-/// What is to be tried, where that was found: nothing where a text is refused, or what is advised is not
-/// to be written.
-fn tries_for(
-    alloc: Global,
-    request: Request<'_>,
-    guests: &[Guest<'_, Global>],
-    all: &Audited<Global>,
-) -> Result<Vec<Vec<Options<Global>>>, AllocError> {
-    let front = request.front;
-    if !all.refusals.as_slice().is_empty() || front.quiet || front.svg {
-        return Ok(Vec::new(alloc));
-    }
-    tries_of(alloc, request.accepted, guests, all)
+    Answered::Given
 }
 
 /// What is advised of these tries, where that was found: nothing where a text is refused.
 fn advice<'r>(
     alloc: Global,
     request: Request<'_>,
-    guests: &'r [Guest<'r, Global>],
+    guests: &'r [Guest<'r>],
     all: &Audited<Global>,
     tries: &'r [Vec<Options<Global>>],
-) -> Result<Option<Advised<'r, Global>>, AllocError>
+) -> Made<Option<Advised<'r, Global>>>
     requires { Audits guests.now all.now }
     ensures advice { IfOk result (λ advised. IfSome advised (IsAdvice
         request.entry.accepted.now guests.now
@@ -158,60 +119,50 @@ fn advice<'r>(
     advise(alloc, request.accepted, guests, all, tries)
 }
 
-/// The text of a report, in the form that was asked for.
-fn in_form(
-    alloc: Global,
-    request: Request<'_>,
-    guests: &[Guest<'_, Global>],
-    report: &Reported<'_>,
-) -> Result<String, AllocError> {
+/// The text of a report, in the form that was asked for; nothing where nothing is to be said.
+fn text_of(alloc: Global, request: Request<'_>, report: &Reported<'_>) -> Made<String>
+    ensures { IsTrue request.entry.front.quiet → IfOk result (λ text. string_bytes text ≡ []) }
+{
     let front = request.front;
+    if front.quiet {
+        return Ok(String::new(alloc));
+    }
     if front.mend {
-        return match (&report.advised, report.all.refusals.as_slice().is_empty()) {
-            (_, false) => Ok(String::new(alloc)),
-            (Some(advised), _) => options_as_text(alloc, advised.guests.as_slice()),
-            (None, _) => options_as_text(alloc, guests),
+        return match &report.advised {
+            _ if !report.all.refusals.is_empty() => Ok(String::new(alloc)),
+            Some(advised) => options_as_text(alloc, advised.guests.as_slice()),
+            None => options_as_text(alloc, report.guests),
         };
     }
     if front.svg {
-        return report_as_svg(alloc, request.accepted, guests, &report.all);
+        return as_svg(alloc, request.accepted, report);
     }
     if front.json {
-        return report_as_json(alloc, request, guests, report);
+        return as_json(alloc, request, report);
     }
-    report_as_text(alloc, request, guests, report)
-}
-
-/// The same, or nothing where nothing is to be said.
-fn text_of(
-    alloc: Global,
-    request: Request<'_>,
-    guests: &[Guest<'_, Global>],
-    report: &Reported<'_>,
-) -> Result<String, AllocError>
-    ensures { IsTrue request.entry.front.quiet → IfOk result (λ text. string_bytes text ≡ []) }
-{
-    if request.front.quiet {
-        return Ok(String::new(alloc));
-    }
-    in_form(alloc, request, guests, report)
+    as_text(alloc, request, report)
 }
 
 /// What is answered where that is what an audit found, and these are to be tried.
 fn answer_with<'r>(
     alloc: Global,
     request: Request<'_>,
-    guests: &'r [Guest<'r, Global>],
+    guests: &'r [Guest<'r>],
     all: Audited<Global>,
     tries: &'r [Vec<Options<Global>>],
-) -> Result<Answer, AllocError>
+) -> Made<Answer>
     requires { Audits guests.now all }
     ensures { IfOk result (Reports request.entry guests.now) }
 {
     let advised = advice(alloc, request, guests, &all, tries)?;
-    let report = Reported { all, advised };
-    let outcome = outcome_of(request, &report);
-    let text = text_of(alloc, request, guests, &report)?;
+    let report = Reported {
+        guests,
+        all,
+        advised,
+    };
+    let found = counting(request.front.mend, &report);
+    let outcome = outcome_of(request.accepted, report.all.refusals.as_slice(), found);
+    let text = text_of(alloc, request, &report)?;
     let refusals = refusal_lines(alloc, report.all.refusals.as_slice())?;
     let further = match &report.advised {
         Some(advised) if request.front.mend => {
@@ -231,11 +182,15 @@ fn answer_with<'r>(
 pub(crate) fn answer_audit(
     alloc: Global,
     request: Request<'_>,
-    guests: &[Guest<'_, Global>],
-) -> Result<Answer, AllocError>
+    guests: &[Guest<'_>],
+) -> Made<Answer>
     ensures { IfOk result (Reports request.entry guests.now) }
 {
     let all = audit_all(alloc, guests)?;
-    let tries = tries_for(alloc, request, guests, &all)?;
+    // (nothing is tried where a text is refused, or what is advised is not to be written)
+    let tries = match !all.refusals.is_empty() || request.front.quiet || request.front.svg {
+        true => Vec::new(alloc),
+        false => tries_of(alloc, request.accepted, guests, &all)?,
+    };
     answer_with(alloc, request, guests, all, tries.as_slice())
 }

@@ -1,9 +1,10 @@
 //! The fields of a finding. JSON has them, and the sentence of its kind is filled with them.
 
-use crate::words::{Extent, Ordinal, is_one, many_of, one_of, ranging};
-use std::alloc::{AllocError, Global};
+use crate::kinds::sentence_of;
+use crate::words::{Done, Extent, Found, Made, Ordinal, is_one, many_of, one_of, ranging};
+use std::alloc::Global;
 use virtiofs_findings::explain::ids::OVERFLOW_ID;
-use virtiofs_findings::finding::{About, Evidence, Finding, Kind};
+use virtiofs_findings::finding::{About, Evidence, Kind};
 use virtiofs_findings::ids::found::IdsFound;
 use virtiofs_findings::ids::kind::IdKind;
 use virtiofs_findings::ids::ranges::{RangeFault, RangeFound};
@@ -53,59 +54,44 @@ fn number_at(place: usize) -> Field<'static> {
     Field::Number((place as u64).saturating_add(1))
 }
 
-/// Adds whom a finding is about.
-fn push_about(fields: &mut Fields<'_>, about: About) -> Result<(), AllocError> {
-    match about {
-        About::Guest(guest) => fields.push(("guest", Field::Number(guest as u64)))?,
-        About::Pair(first, second) => {
-            fields.push(("guests", Field::Guests(first, second)))?;
-        }
-    }
-    Ok(())
-}
-
-/// The word for what is wrong with a range, and what its sentence says before and after another range.
-fn fault_words(fault: RangeFault) -> (&'static str, &'static str, &'static str) {
+/// The word for what is wrong with a range, and what its sentence says.
+fn fault_words(fault: RangeFault) -> (&'static str, &'static str) {
     match fault {
-        RangeFault::Empty => ("empty", "has no id", ""),
-        RangeFault::Beyond => ("beyond", "reaches past the greatest id, 4294967294", ""),
-        RangeFault::TooMany => ("too_many", "is one too many: Linux takes 340", ""),
+        RangeFault::Empty => ("empty", "has no id"),
+        RangeFault::Beyond => ("beyond", "reaches past the greatest id, 4294967294"),
+        RangeFault::TooMany => ("too_many", "is one too many: Linux takes 340"),
         RangeFault::PastPage => (
             "past_page",
             "is too much: Linux takes less than 4096 bytes of them",
-            "",
         ),
         RangeFault::NotGiven => (
             "not_given",
             "has ids that the user may not give to a namespace: the daemon does not start",
-            "",
         ),
-        RangeFault::MeetsInside(_) => { ("overlaps_inside", "overlaps ", " inside the namespace") }
-        RangeFault::MeetsOutside(_) => {
-            ("overlaps_outside", "overlaps ", " outside the namespace")
-        }
+        RangeFault::MeetsInside(_) => ("overlaps_inside", "overlaps "),
+        RangeFault::MeetsOutside(_) => ("overlaps_outside", "overlaps "),
     }
 }
 
 /// Adds a range that is at fault.
-fn push_range(fields: &mut Fields<'_>, kind: IdKind, found: RangeFound) -> Result<(), AllocError> {
-    let (word, what, end) = fault_words(found.fault);
-    let option = ranging(kind);
-    let (other, second) = match found.fault {
-        RangeFault::MeetsInside(place) | RangeFault::MeetsOutside(place) => {
-            (number_at(place), Field::Place(option, place))
-        }
-        _ => (Field::Null, Field::Phrase("")),
+fn push_range(fields: &mut Fields<'_>, kind: IdKind, found: RangeFound) -> Done {
+    let ((word, what), option) = (fault_words(found.fault), ranging(kind));
+    let other = match found.fault {
+        RangeFault::MeetsInside(place) => Some((place, " inside the namespace")),
+        RangeFault::MeetsOutside(place) => Some((place, " outside the namespace")),
+        _ => None,
     };
     fields.push(("ids", Field::Word(many_of(kind))))?;
     fields.push(("range", number_at(found.place)))?;
     fields.push(("fault", Field::Word(word)))?;
-    fields.push(("other", other))?;
     fields.push(("place", Field::Place(option, found.place)))?;
     fields.push(("what", Field::Phrase(what)))?;
-    fields.push(("second", second))?;
-    fields.push(("where", Field::Phrase(end)))?;
-    Ok(())
+    let Some((place, side)) = other else {
+        return Ok(fields.push(("other", Field::Null))?);
+    };
+    fields.push(("other", number_at(place)))?;
+    fields.push(("second", Field::Place(option, place)))?;
+    Ok(fields.push(("where", Field::Phrase(side)))?)
 }
 
 /// Adds ids, and what is told of the least of them.
@@ -115,35 +101,22 @@ fn push_ids<'a>(
     kind: IdKind,
     in_namespace: bool,
     found: &'a IdsFound<Global>,
-) -> Result<(), AllocError> {
-    let (one, ids) = (one_of(kind), found.ids.as_slice());
+) -> Done {
+    let (one, ids, other) = (one_of(kind), found.ids.as_slice(), u64::from(found.other));
     fields.push(("ids", Field::Word(many_of(kind))))?;
     fields.push(("id", Field::Number(u64::from(found.guest))))?;
-    if what == Kind::IdOfBoth {
-        fields.push(("other", Field::Number(u64::from(found.other))))?;
-    }
     fields.push(("host", Field::Number(u64::from(found.host))))?;
+    fields.push(("spans", Field::Spans(ids)))?;
+    if what == Kind::IdOfBoth {
+        fields.push(("other", Field::Number(other)))?;
+    }
     if what == Kind::NotBack {
-        fields.push(("back", Field::Number(u64::from(found.other))))?;
+        fields.push(("back", Field::Number(other)))?;
         fields.push(("shared", Field::Flag(found.is_shared)))?;
     }
-    fields.push(("spans", Field::Spans(ids)))?;
-    fields.push(("one", Field::Phrase(one)))?;
-    fields.push(("extent", Field::Extent(one, ids)))?;
-    push_phrases(fields, one, in_namespace, found)
-}
-
-/// Adds the words that sentences on ids choose among.
-fn push_phrases<'a>(
-    fields: &mut Fields<'a>,
-    one: &'static str,
-    in_namespace: bool,
-    found: &'a IdsFound<Global>,
-) -> Result<(), AllocError> {
-    let (does, keeps, them) = match is_one(found.ids.as_slice()) {
-        true => ("does", "keeps its", "it"),
-        false => ("do", "keep their", "them"),
-    };
+    if found.is_shared {
+        fields.push(("as", Field::As(one, found.other)))?;
+    }
     let there = match in_namespace {
         true => "in the daemon's namespace",
         false => "of the host",
@@ -155,21 +128,14 @@ fn push_phrases<'a>(
         OVERFLOW_ID => "which is not among the daemon's ids, or which the daemon takes for itself",
         _ => "which is not among the daemon's ids",
     };
-    let shared = match found.is_shared {
-        true => Field::As(one, found.other),
-        false => Field::Phrase(""),
-    };
-    fields.push(("does", Field::Phrase(does)))?;
-    fields.push(("keeps", Field::Phrase(keeps)))?;
+    fields.push(("one", Field::Phrase(one)))?;
+    fields.push(("extent", Field::Extent(one, ids)))?;
     fields.push(("there", Field::Phrase(there)))?;
-    fields.push(("them", Field::Phrase(them)))?;
-    fields.push(("why", Field::Phrase(why)))?;
-    fields.push(("as", shared))?;
-    Ok(())
+    Ok(fields.push(("why", Field::Phrase(why)))?)
 }
 
 /// Adds why a daemon does not start.
-fn push_no_start(fields: &mut Fields<'_>, why: NoStart) -> Result<(), AllocError> {
+fn push_no_start(fields: &mut Fields<'_>, why: NoStart) -> Done {
     let (word, sentence) = match why {
         NoStart::MapsAsRoot => ("maps_as_root", "--uid-map and --gid-map are not for root"),
         NoStart::MapsOutside => (
@@ -179,47 +145,17 @@ fn push_no_start(fields: &mut Fields<'_>, why: NoStart) -> Result<(), AllocError
         NoStart::ChrootByUser => ("chroot_by_user", "--sandbox=chroot takes root"),
     };
     fields.push(("reason", Field::Word(word)))?;
-    fields.push(("why", Field::Phrase(sentence)))?;
-    Ok(())
-}
-
-/// Whether they are a single id.
-fn are_one(users: &Option<IdsFound<Global>>, groups: &Option<IdsFound<Global>>) -> bool {
-    match (users, groups) {
-        (Some(ids), None) | (None, Some(ids)) => is_one(ids.ids.as_slice()),
-        _ => false,
-    }
-}
-
-/// Adds ids that act as root of the host.
-fn push_acting<'a>(
-    fields: &mut Fields<'a>,
-    users: &'a Option<IdsFound<Global>>,
-    groups: &'a Option<IdsFound<Global>>,
-) -> Result<(), AllocError> {
-    let (acts, creates) = match are_one(users, groups) {
-        true => ("acts", "it creates"),
-        false => ("act", "they create"),
-    };
-    let and = match users.is_some() && groups.is_some() {
-        true => " and ",
-        false => "",
-    };
-    fields.push(("users", Field::Acting("user", users.as_ref())))?;
-    fields.push(("groups", Field::Acting("group", groups.as_ref())))?;
-    fields.push(("and", Field::Phrase(and)))?;
-    fields.push(("acts", Field::Phrase(acts)))?;
-    fields.push(("creates", Field::Phrase(creates)))?;
-    Ok(())
+    Ok(fields.push(("why", Field::Phrase(sentence)))?)
 }
 
 /// The fields of a finding.
-pub(crate) fn fields_of<'a>(
-    alloc: Global,
-    finding: &'a Finding<Global>,
-) -> Result<Fields<'a>, AllocError> {
+pub(crate) fn fields_of<'a>(alloc: Global, finding: &'a Found) -> Made<Fields<'a>> {
     let mut fields: Fields<'a> = Vec::new(alloc);
-    push_about(&mut fields, finding.about)?;
+    let about = match finding.about {
+        About::Guest(guest) => ("guest", Field::Number(guest as u64)),
+        About::Pair(first, second) => ("guests", Field::Guests(first, second)),
+    };
+    fields.push(about)?;
     match &finding.evidence {
         Evidence::Plain => {}
         Evidence::OfIds(kind) => {
@@ -233,7 +169,13 @@ pub(crate) fn fields_of<'a>(
             in_namespace,
             found,
         } => push_ids(&mut fields, finding.kind, *ids, *in_namespace, found)?,
-        Evidence::BothIds(users, groups) => push_acting(&mut fields, users, groups)?,
+        Evidence::BothIds(users, groups) => {
+            fields.push(("users", Field::Acting("user", users.as_ref())))?;
+            fields.push(("groups", Field::Acting("group", groups.as_ref())))?;
+            if users.is_some() && groups.is_some() {
+                fields.push(("and", Field::Phrase(" and ")))?;
+            }
+        }
         Evidence::Name(least) => fields.push(("least", Field::Least(least)))?,
         Evidence::Rule(place) => fields.push(("rule", number_at(*place)))?,
         Evidence::Renamed(name, host) => {
@@ -246,7 +188,7 @@ pub(crate) fn fields_of<'a>(
 
 /// Writes the least name at the end of a text, and after it the least of those that begin as usual, if
 /// it is none of them.
-fn push_least(text: &mut String, least: &LeastName<Global>) -> Result<(), AllocError> {
+fn push_least(text: &mut String, least: &LeastName<Global>) -> Done {
     let name = least.name.as_name().as_bytes();
     let first = Shown(name);
     write!(text, "'{first}'")?;
@@ -260,17 +202,15 @@ fn push_least(text: &mut String, least: &LeastName<Global>) -> Result<(), AllocE
             also = also.or(Some(it));
         }
     }
-    match also {
-        Some(also) => {
-            let also = Shown(also);
-            write!(text, " (also '{also}')")
-        }
-        None => Ok(()),
+    if let Some(also) = also {
+        let also = Shown(also);
+        write!(text, " (also '{also}')")?;
     }
+    Ok(())
 }
 
 /// Writes a field at the end of a text.
-fn push_field(text: &mut String, field: Field<'_>) -> Result<(), AllocError> {
+fn push_field(text: &mut String, field: Field<'_>) -> Done {
     match field {
         Field::Phrase(words) | Field::Word(words) => text.push_str(words),
         Field::As(one, id) => write!(text, ", as {one} {id} does,"),
@@ -293,49 +233,45 @@ fn push_field(text: &mut String, field: Field<'_>) -> Result<(), AllocError> {
             write!(text, "{name}")
         }
         Field::Least(least) => push_least(text, least),
-        Field::Acting(_, None)
-        | Field::Flag(_)
-        | Field::Null
-        | Field::Guests(..)
-        | Field::Spans(_) => Ok(()),
+        _ => Ok(()),
     }
 }
 
-/// Writes the field that has a key at the end of a text; of two guests, `a` is the first and `b` the
-/// second.
-fn push_key(
-    text: &mut String,
-    about: About,
-    fields: &[(&'static str, Field<'_>)],
-    key: &str,
-) -> Result<(), AllocError> {
-    if let About::Pair(first, second) = about {
-        match key {
-            "a" => return write!(text, "{first}"),
-            "b" => return write!(text, "{second}"),
-            _ => {}
+/// Whether a finding is of a single id.
+fn is_of_one(finding: &Found) -> bool {
+    match &finding.evidence {
+        Evidence::Ids { found, .. } => is_one(found.ids.as_slice()),
+        Evidence::BothIds(Some(ids), None) | Evidence::BothIds(None, Some(ids)) => {
+            is_one(ids.ids.as_slice())
         }
+        _ => false,
     }
-    for (name, field) in fields {
-        if *name == key {
-            return push_field(text, *field);
-        }
+}
+
+/// Writes what a hole of a sentence stands for at the end of a text: the field that has a key, or words on
+/// one or many; of two guests, `a` is the first and `b` the second.
+fn push_hole(text: &mut String, finding: &Found, fields: &Fields<'_>, hole: &str) -> Done {
+    if let Some((one, many)) = hole.split_once('|') {
+        return text.push_str(if is_of_one(finding) { one } else { many });
     }
-    Ok(())
+    match finding.about {
+        About::Pair(first, _) if hole == "a" => return write!(text, "{first}"),
+        About::Pair(_, second) if hole == "b" => return write!(text, "{second}"),
+        _ => {}
+    }
+    match fields.iter().find(|(key, _)| *key == hole) {
+        Some((_, field)) => push_field(text, *field),
+        None => Ok(()),
+    }
 }
 
 /// Writes the sentence of a finding at the end of a text, on a line.
-pub(crate) fn push_finding(
-    alloc: Global,
-    text: &mut String,
-    sentence: &str,
-    finding: &Finding<Global>,
-) -> Result<(), AllocError> {
+pub(crate) fn push_finding(alloc: Global, text: &mut String, finding: &Found) -> Done {
     let fields = fields_of(alloc, finding)?;
-    for piece in sentence.split('{') {
+    for piece in sentence_of(finding.kind).split('{') {
         match piece.split_once('}') {
-            Some((key, rest)) => {
-                push_key(text, finding.about, fields.as_slice(), key)?;
+            Some((hole, rest)) => {
+                push_hole(text, finding, &fields, hole)?;
                 text.push_str(rest)?;
             }
             None => text.push_str(piece)?,

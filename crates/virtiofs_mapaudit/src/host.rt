@@ -1,9 +1,10 @@
 //! What the host tells of the processes and the users that the words name.
 
-use crate::files::{HostFault, content, named_content, told, unread, usual_content};
+use crate::files::{HostFault, Read, content, named_content, told, unread, usual_content};
 use crate::guests::HostProcess;
 use crate::running::{Running, groups};
-use std::alloc::{AllocError, Global};
+use crate::words::Made;
+use std::alloc::Global;
 use std::{fs, io};
 use virtiofs_host::command_line::read_command_line;
 use virtiofs_host::decimal::decimal;
@@ -42,8 +43,24 @@ pub(crate) struct Share {
     pub(crate) unread: Vec<String>,
 }
 
+impl Share {
+    /// None, of no directory.
+    fn new(alloc: Global) -> Share {
+        Share {
+            directory: String::new(alloc),
+            processes: Vec::new(alloc),
+            unread: Vec::new(alloc),
+        }
+    }
+}
+
+/// A fault that is told by this sentence.
+fn says(rt: &HostRuntime, sentence: &str) -> HostFault {
+    told(String::from_str(rt.alloc(), sentence))
+}
+
 /// Whether a process is gone.
-fn is_gone(rt: &HostRuntime, pid: u32) -> Result<bool, AllocError> {
+fn is_gone(rt: &HostRuntime, pid: u32) -> Made<bool> {
     let path = format!(in rt.alloc(); "/proc/{pid}")?;
     match fs::metadata(rt, path.as_str()) {
         Ok(_) => Ok(false),
@@ -51,13 +68,13 @@ fn is_gone(rt: &HostRuntime, pid: u32) -> Result<bool, AllocError> {
     }
 }
 
-/// The content of a file of a process; `None` where the process is gone.
-fn of_process(rt: &HostRuntime, pid: u32, name: &str) -> Result<Option<Vec<u8>>, HostFault> {
+/// The content of a file of a process.
+fn of_process(rt: &HostRuntime, pid: u32, name: &str) -> Read<Vec<u8>> {
     let path = format!(in rt.alloc(); "/proc/{pid}/{name}")?;
     match content(rt, path.as_str()) {
         // (what is read of one that ends meanwhile is refused in several ways)
         Err(HostFault::Told(sentence)) => match is_gone(rt, pid)? {
-            true => Ok(None),
+            true => Err(HostFault::Missing),
             false => Err(HostFault::Told(sentence)),
         },
         read => read,
@@ -66,50 +83,40 @@ fn of_process(rt: &HostRuntime, pid: u32, name: &str) -> Result<Option<Vec<u8>>,
 
 /// Why it is not said who runs a process.
 fn not_shown(alloc: Global, pid: u32, fault: NotShown) -> HostFault {
-    let name = match fault {
-        NotShown::Status => {
-            return told(format!(in alloc; "/proc/{pid}/status does not say who runs it\n"));
-        }
-        NotShown::UidMap => "uid_map",
-        NotShown::GidMap => "gid_map",
+    told(match fault {
+        NotShown::Status => format!(in alloc; "/proc/{pid}/status does not say who runs it\n"),
+        NotShown::UidMap => format!(in alloc; "/proc/{pid}/uid_map is not as Linux writes it\n"),
+        NotShown::GidMap => format!(in alloc; "/proc/{pid}/gid_map is not as Linux writes it\n"),
         NotShown::OutOfMemory => return HostFault::OutOfMemory,
-    };
-    told(format!(in alloc; "/proc/{pid}/{name} is not as Linux writes it\n"))
+    })
 }
 
-/// Who runs a process; `None` where it is gone. `place` is that of the runner.
-fn runner_of(
-    rt: &HostRuntime,
-    pid: u32,
-    place: usize,
-) -> Result<Option<Runner<Global>>, HostFault> {
-    let Some(status) = of_process(rt, pid, "status")? else {
-        return Ok(None);
-    };
-    let Some(uid_map) = of_process(rt, pid, "uid_map")? else {
-        return Ok(None);
-    };
-    let Some(gid_map) = of_process(rt, pid, "gid_map")? else {
-        return Ok(None);
-    };
+/// The process of that number and command line, whose runner has that place among all runners.
+fn process_of(rt: &HostRuntime, pid: u32, cmdline: Vec<u8>, place: usize) -> Read<HostProcess> {
+    let status = of_process(rt, pid, "status")?;
+    let uid_map = of_process(rt, pid, "uid_map")?;
+    let gid_map = of_process(rt, pid, "gid_map")?;
     let shown = Shown {
         status: status.as_slice(),
         uid_map: uid_map.as_slice(),
         gid_map: gid_map.as_slice(),
     };
     match running(rt.alloc(), pid, shown, place) {
-        Ok(runner) => Ok(Some(runner)),
+        Ok(runner) => Ok(HostProcess {
+            pid,
+            cmdline,
+            runner,
+        }),
         Err(fault) => Err(not_shown(rt.alloc(), pid, fault)),
     }
 }
 
 /// The content of a file of subordinate ids: the last that is named, or the usual one, which may be
 /// missing.
-fn subordinate(rt: &HostRuntime, files: &[&str], usual: &str) -> Result<Vec<u8>, HostFault> {
-    let path = files.last().copied().unwrap_or(usual);
-    let text = match files.is_empty() {
-        true => usual_content(rt, path)?,
-        false => named_content(rt, path)?,
+fn subordinate(rt: &HostRuntime, files: &[&str], usual: &str) -> Read<Vec<u8>> {
+    let (path, text) = match files.last() {
+        Some(path) => (*path, named_content(rt, path)?),
+        None => (usual, usual_content(rt, usual)?),
     };
     if has_carriage_return(text.as_slice()) {
         return Err(told(format!(in rt.alloc();
@@ -128,20 +135,16 @@ fn wrong_value(alloc: Global, text: &str, what: &str) -> HostFault {
 }
 
 /// The user of that name or number, and the group, if a number of one is said.
-fn run_as_of(rt: &HostRuntime, passwd: &[u8], text: &str) -> Result<Option<RunAs>, AllocError> {
+fn run_as_of(rt: &HostRuntime, passwd: &[u8], text: &str) -> Made<Option<RunAs>> {
     if let Some(run_as) = read_run_as(text) {
         return Ok(Some(run_as));
     }
-    let (name, group) = match text.split_once(':') {
-        Some((name, group)) => (name, Some(group)),
-        None => (text, None),
-    };
-    let gid = match group {
-        Some(group) => match decimal(group.as_bytes()) {
-            Some(gid) => Some(gid),
+    let (name, gid) = match text.split_once(':') {
+        Some((name, group)) => match decimal(group.as_bytes()) {
+            Some(gid) => (name, Some(gid)),
             None => return Ok(None),
         },
-        None => None,
+        None => (text, None),
     };
     for named in read_names(rt.alloc(), passwd)?.as_slice() {
         if named.name == name.as_bytes() {
@@ -158,7 +161,7 @@ fn starter(
     values: &Values<'_>,
     text: &str,
     place: usize,
-) -> Result<Option<Runner<Global>>, HostFault> {
+) -> Read<Option<Runner<Global>>> {
     let passwd = usual_content(rt, "/etc/passwd")?;
     let Some(run_as) = run_as_of(rt, passwd.as_slice(), text)? else {
         return Ok(None);
@@ -175,15 +178,12 @@ fn starter(
 
 /// Why `--run-as` names nobody.
 fn no_starter(alloc: Global, text: &str) -> HostFault {
+    let what = "user: --run-as takes UID, UID:GID, or a name that /etc/passwd has";
     match read_run_as(text) {
         Some(RunAs { uid, .. }) => told(format!(in alloc;
             "/etc/passwd has no user {uid}: say the group too, as --run-as {uid}:GID\n"
         )),
-        None => wrong_value(
-            alloc,
-            text,
-            "user: --run-as takes UID, UID:GID, or a name that /etc/passwd has",
-        ),
+        None => wrong_value(alloc, text, what),
     }
 }
 
@@ -193,7 +193,7 @@ fn starter_at(
     values: &Values<'_>,
     guest: &Guest<'_, Global>,
     place: usize,
-) -> Result<Option<Runner<Global>>, HostFault> {
+) -> Read<Option<Runner<Global>>> {
     let said = values.run_as.as_slice();
     let place = if said.len() == 1 { 0 } else { place };
     if let Some(text) = said.get(place) {
@@ -211,44 +211,21 @@ fn starter_at(
     }
 }
 
-/// The process of that number and command line, whose runner has that place among all runners.
-fn process_of(
-    rt: &HostRuntime,
-    pid: u32,
-    cmdline: Vec<u8>,
-    place: usize,
-) -> Result<Option<HostProcess>, HostFault> {
-    match runner_of(rt, pid, place)? {
-        Some(runner) => Ok(Some(HostProcess {
-            pid,
-            cmdline,
-            runner,
-        })),
-        None => Ok(None),
-    }
-}
-
-/// The process that a text names.
-fn named_by(rt: &HostRuntime, text: &str, place: usize) -> Result<HostProcess, HostFault> {
+/// The process that a text names, whose runner has that place among all runners.
+fn named_by(rt: &HostRuntime, text: &str, place: usize) -> Read<HostProcess> {
     let Some(pid) = decimal(text.as_bytes()) else {
         return Err(wrong_value(rt.alloc(), text, "number of a process"));
     };
-    if let Some(cmdline) = of_process(rt, pid, "cmdline")? {
-        if let Some(process) = process_of(rt, pid, cmdline, place)? {
-            return Ok(process);
+    let read = match of_process(rt, pid, "cmdline") {
+        Ok(cmdline) => process_of(rt, pid, cmdline, place),
+        Err(fault) => Err(fault),
+    };
+    match read {
+        Err(HostFault::Missing) => {
+            Err(told(format!(in rt.alloc(); "there is no process {pid}\n")))
         }
+        read => read,
     }
-    Err(told(format!(in rt.alloc(); "there is no process {pid}\n")))
-}
-
-/// The processes that are named. The first has that place among all runners.
-fn named(rt: &HostRuntime, texts: &[&str], first: usize) -> Result<Vec<HostProcess>, HostFault> {
-    let mut processes = Vec::new(rt.alloc());
-    for text in texts {
-        let place = first.saturating_add(processes.len());
-        processes.push(named_by(rt, text, place)?)?;
-    }
-    Ok(processes)
 }
 
 /// A process of a daemon.
@@ -266,7 +243,7 @@ struct Daemon {
 
 /// The directory that a daemon shares, without symbolic links: one that is not absolute by the folder in
 /// which the process of that number runs. One that this host does not resolve stays as it is.
-fn resolved(rt: &HostRuntime, pid: u32, directory: &str) -> Result<String, HostFault> {
+fn resolved(rt: &HostRuntime, pid: u32, directory: &str) -> Read<String> {
     let as_said = String::from_str(rt.alloc(), directory)?;
     let path = match directory.as_bytes().first() {
         None => return Ok(as_said),
@@ -281,53 +258,51 @@ fn resolved(rt: &HostRuntime, pid: u32, directory: &str) -> Result<String, HostF
 }
 
 /// The directory that a command line says.
-fn directory_of(rt: &HostRuntime, cmdline: &[u8]) -> Result<String, HostFault> {
+fn directory_of(rt: &HostRuntime, cmdline: &[u8]) -> Read<String> {
     let words = match read_command_line(rt.alloc(), cmdline) {
         Ok(words) => words,
         Err(TextError::Wrong(_)) => return Ok(String::new(rt.alloc())),
         Err(TextError::OutOfMemory) => return Err(HostFault::OutOfMemory),
     };
-    match shared_directory(rt.alloc(), OF_DAEMON, words.as_slice()) {
-        Ok(directory) => Ok(String::from_str(rt.alloc(), directory.unwrap_or(""))?),
-        Err(ReadError::Wrong(_)) => Ok(String::new(rt.alloc())),
-        Err(ReadError::OutOfMemory) => Err(HostFault::OutOfMemory),
-    }
+    let directory = match shared_directory(rt.alloc(), OF_DAEMON, words.as_slice()) {
+        Ok(directory) => directory.unwrap_or(""),
+        Err(ReadError::Wrong(_)) => "",
+        Err(ReadError::OutOfMemory) => return Err(HostFault::OutOfMemory),
+    };
+    Ok(String::from_str(rt.alloc(), directory)?)
 }
 
-/// The process of that number, if it is a daemon's and is not gone.
-fn daemon_of(rt: &HostRuntime, pid: u32) -> Result<Option<Daemon>, HostFault> {
-    let Some(cmdline) = of_process(rt, pid, "cmdline")? else {
-        return Ok(None);
-    };
+/// The process of that number, if it is a daemon's.
+fn daemon_of(rt: &HostRuntime, pid: u32) -> Read<Daemon> {
+    let cmdline = of_process(rt, pid, "cmdline")?;
     if !runs_daemon(cmdline.as_slice()) {
-        return Ok(None);
+        return Err(HostFault::Missing);
     }
     // (where it is not said, it is told when it is asked who runs the process)
     let parent = match of_process(rt, pid, "status") {
-        Ok(Some(status)) => parent(status.as_slice()).unwrap_or(0),
-        Ok(None) => return Ok(None),
+        Ok(status) => parent(status.as_slice()).unwrap_or(0),
         Err(HostFault::Told(_why)) => 0,
-        Err(HostFault::OutOfMemory) => return Err(HostFault::OutOfMemory),
+        Err(fault) => return Err(fault),
     };
     let directory = directory_of(rt, cmdline.as_slice())?;
-    Ok(Some(Daemon {
+    Ok(Daemon {
         pid,
         parent,
         cmdline,
         directory,
-    }))
+    })
 }
 
 /// That `/proc` is not listed.
 fn unlisted(rt: &HostRuntime, error: &io::Error) -> HostFault {
     match unread(rt, "/proc", error) {
-        Err(fault) => fault,
-        Ok(_) => told(format!(in rt.alloc(); "there is no folder /proc\n")),
+        HostFault::Missing => says(rt, "there is no folder /proc\n"),
+        fault => fault,
     }
 }
 
 /// All processes of daemons.
-fn daemons(rt: &HostRuntime) -> Result<Vec<Daemon>, HostFault> {
+fn daemons(rt: &HostRuntime) -> Read<Vec<Daemon>> {
     let mut all = Vec::new(rt.alloc());
     let entries = match fs::read_dir(rt, "/proc") {
         Ok(entries) => entries,
@@ -338,12 +313,11 @@ fn daemons(rt: &HostRuntime) -> Result<Vec<Daemon>, HostFault> {
             Ok(entry) => decimal(entry.file_name().as_bytes()),
             Err(error) => return Err(unlisted(rt, &error)),
         };
-        let it = match pid {
-            Some(pid) => daemon_of(rt, pid)?,
-            None => None,
-        };
-        if let Some(it) = it {
-            all.push(it)?;
+        let Some(pid) = pid else { continue };
+        match daemon_of(rt, pid) {
+            Ok(it) => all.push(it)?,
+            Err(HostFault::Missing) => {}
+            Err(fault) => return Err(fault),
         }
     }
     Ok(all)
@@ -364,17 +338,13 @@ fn first_of(daemons: &[Daemon], last: &Daemon) -> u32 {
 }
 
 /// The processes of a group, which share a directory. One that is gone is passed over.
-fn share_of(rt: &HostRuntime, group: &[Running<'_>]) -> Result<Share, HostFault> {
-    let mut share = Share {
-        directory: String::new(rt.alloc()),
-        processes: Vec::new(rt.alloc()),
-        unread: Vec::new(rt.alloc()),
-    };
+fn share_of(rt: &HostRuntime, group: &[Running<'_>]) -> Read<Share> {
+    let mut share = Share::new(rt.alloc());
     for it in group {
         let cmdline = Vec::from_slice(rt.alloc(), it.cmdline)?;
         match process_of(rt, it.pid, cmdline, share.processes.len()) {
-            Ok(Some(process)) => share.processes.push(process)?,
-            Ok(None) => {}
+            Ok(process) => share.processes.push(process)?,
+            Err(HostFault::Missing) => {}
             Err(HostFault::Told(why)) => share.unread.push(why)?,
             Err(HostFault::OutOfMemory) => return Err(HostFault::OutOfMemory),
         }
@@ -384,7 +354,7 @@ fn share_of(rt: &HostRuntime, group: &[Running<'_>]) -> Result<Share, HostFault>
 }
 
 /// The processes that serve guests, by the directory that they share.
-fn shares_of(rt: &HostRuntime, daemons: &[Daemon]) -> Result<Vec<Share>, HostFault> {
+fn shares_of(rt: &HostRuntime, daemons: &[Daemon]) -> Read<Vec<Share>> {
     let mut directories = Vec::new(rt.alloc());
     for it in daemons {
         let pid = first_of(daemons, it);
@@ -414,17 +384,13 @@ fn starters_of(
     rt: &HostRuntime,
     values: &Values<'_>,
     guests: &[Guest<'_, Global>],
-) -> Result<Vec<Option<Runner<Global>>>, HostFault> {
+) -> Read<Vec<Option<Runner<Global>>>> {
     let users = values.run_as.len();
     if users > 0 && guests.is_empty() {
-        return Err(told(format!(in rt.alloc();
-            "'--run-as' is for a command line, and there is none\n"
-        )));
+        return Err(says(rt, "'--run-as' is for a command line, and there is none\n"));
     }
     if users > 1 && users != guests.len() {
-        return Err(told(format!(in rt.alloc();
-            "give '--run-as' once, or once for each command line\n"
-        )));
+        return Err(says(rt, "give '--run-as' once, or once for each command line\n"));
     }
     let mut starters = Vec::new(rt.alloc());
     for (place, guest) in guests.iter().enumerate() {
@@ -433,27 +399,11 @@ fn starters_of(
     if starters.iter().all(|it| it.is_none())
         && !(values.subuid.is_empty() && values.subgid.is_empty())
     {
-        return Err(told(format!(in rt.alloc();
-            "'--subuid' and '--subgid' are for '--run-as', or for a user whom words before the daemon's name: there is neither\n"
-        )));
+        let why =
+            "'--subuid' and '--subgid' are for '--run-as', or for a user whom words before the daemon's name: there is neither\n";
+        return Err(says(rt, why));
     }
     Ok(starters)
-}
-
-/// Refuses what does not go with `--running`.
-fn check_running(
-    rt: &HostRuntime,
-    asked: Asked,
-    values: &Values<'_>,
-    guests: &[Guest<'_, Global>],
-) -> Result<(), HostFault> {
-    let others = !guests.is_empty() || !values.pid.is_empty();
-    if asked.running && (asked.svg || asked.mend || others) {
-        return Err(told(format!(in rt.alloc();
-            "'--running' goes with neither '--pid', '--svg', '--mend' nor a command line\n"
-        )));
-    }
-    Ok(())
 }
 
 /// Asks the host about the users and the processes that the words name, or about the daemons that run,
@@ -463,21 +413,23 @@ pub(crate) fn ask(
     asked: Asked,
     values: &Values<'_>,
     guests: &[Guest<'_, Global>],
-) -> Result<Host, HostFault> {
-    check_running(rt, asked, values, guests)?;
+) -> Read<Host> {
+    let others = !guests.is_empty() || !values.pid.is_empty();
+    if asked.running && (asked.svg || asked.mend || others) {
+        let why = "'--running' goes with neither '--pid', '--svg', '--mend' nor a command line\n";
+        return Err(says(rt, why));
+    }
     let starters = starters_of(rt, values, guests)?;
-    let shares = match asked.running {
-        true => shares_of(rt, daemons(rt)?.as_slice())?,
-        false => {
-            let processes = named(rt, values.pid.as_slice(), starters.len())?;
-            let mut shares = Vec::new(rt.alloc());
-            shares.push(Share {
-                directory: String::new(rt.alloc()),
-                processes,
-                unread: Vec::new(rt.alloc()),
-            })?;
-            shares
-        }
-    };
+    if asked.running {
+        let shares = shares_of(rt, daemons(rt)?.as_slice())?;
+        return Ok(Host { starters, shares });
+    }
+    let mut share = Share::new(rt.alloc());
+    for text in values.pid.as_slice() {
+        let place = starters.len().saturating_add(share.processes.len());
+        share.processes.push(named_by(rt, text, place)?)?;
+    }
+    let mut shares = Vec::new(rt.alloc());
+    shares.push(share)?;
     Ok(Host { starters, shares })
 }

@@ -9,10 +9,8 @@ mod guests;
 mod host;
 mod json;
 mod kinds;
-mod known;
 mod losses;
 mod picture;
-mod refusal;
 mod running;
 mod shell;
 mod summary;
@@ -21,23 +19,24 @@ mod text;
 mod whole;
 mod words;
 
-use crate::answer::{Answer, Wanted, answer_audit, request_of};
+use crate::answer::{Answer, Request, answer_audit};
 use crate::explained::{answer_questions, question_sentence};
-use crate::files::{HostFault, any_content, named_text};
+use crate::files::{HostFault, Read, any_content, named_text, told};
 use crate::guests::{Everyone, ProcessFault, all_guests};
-use crate::host::{Host, Share, ask};
+use crate::host::{Host, ask};
 use crate::kinds::{read_kinds, words_in};
-use crate::known::Known;
+use crate::summary::Known;
 use crate::whole::{Said, whole_lines, whole_text, worst};
-use std::alloc::{AllocError, Global};
+use crate::words::Made;
+use std::alloc::Global;
 use std::process::ExitCode;
 use std::{env, io};
-use virtiofs_findings::explain::asking::{Question, Questions, read_questions};
+use virtiofs_findings::explain::asking::{Questions, read_questions};
 use virtiofs_findings::finding::Kind;
 use virtiofs_options::fault::{ReadError, fault_text};
 use virtiofs_options::front::Asked;
 use virtiofs_options::guests::Guests;
-use virtiofs_options::help::told;
+use virtiofs_options::help;
 use virtiofs_options::options::{OF_DAEMON, OWN};
 use virtiofs_options::unknown::unknown_line;
 use virtiofs_options::values::Values;
@@ -68,19 +67,14 @@ fn main(rt: HostRuntime) -> ExitCode {
     ExitCode::from(status(ended))
 }
 
-/// The arguments after the program's name; `None` where one is not UTF-8.
-fn arguments(rt: &HostRuntime) -> Result<Option<Vec<String>>, AnswerFault> {
-    match env::args(rt) {
-        Ok(all) => Ok(Some(all.skip(1).collect(rt.alloc())?)),
-        Err(error) if error.kind() == io::ErrorKind::OutOfMemory => Err(AnswerFault::OutOfMemory),
-        Err(_) => Ok(None),
-    }
-}
-
+/// Does what the arguments after the program's name ask for.
 fn run(rt: &HostRuntime) -> Result<Answered, AnswerFault> {
-    let Some(arguments) = arguments(rt)? else {
-        let _ = eprint!(rt; "virtiofs_mapaudit: a word is not UTF-8\n{USAGE}");
-        return Ok(Answered::WrongWords);
+    let arguments: Vec<String> = match env::args(rt) {
+        Ok(all) => all.skip(1).collect(rt.alloc())?,
+        Err(error) if error.kind() == io::ErrorKind::OutOfMemory => {
+            return Err(AnswerFault::OutOfMemory);
+        }
+        Err(_) => return Ok(wrong(rt, "a word is not UTF-8\n")),
     };
     let words: Vec<&str> = arguments
         .iter()
@@ -93,10 +87,15 @@ fn run(rt: &HostRuntime) -> Result<Answered, AnswerFault> {
 fn answered(rt: &HostRuntime, words: &[&str]) -> Result<Answered, AnswerFault> {
     match read_words(rt.alloc(), OWN, OF_DAEMON, words) {
         Ok(Words::Tell(telling)) => {
-            write_whole(rt, told(rt.alloc(), telling)?.as_str())?;
+            write_whole(rt, help::told(rt.alloc(), telling)?.as_str())?;
             Ok(Answered::Given)
         }
-        Ok(Words::Audit(asked, values, guests)) => audited(rt, asked, &values, guests),
+        Ok(Words::Audit(asked, values, guests)) => match said_of(rt, asked, &values, guests) {
+            Ok(said) => told_of(rt, asked, said.as_slice()),
+            Err(HostFault::Told(text)) => Ok(wrong(rt, text.as_str())),
+            Err(HostFault::Missing) => Ok(wrong(rt, "a file or a process is missing\n")),
+            Err(HostFault::OutOfMemory) => Err(AnswerFault::OutOfMemory),
+        },
         Err(ReadError::Wrong(fault)) => Ok(wrong(rt, fault_text(rt.alloc(), fault)?.as_str())),
         Err(ReadError::OutOfMemory) => Err(AnswerFault::OutOfMemory),
     }
@@ -109,11 +108,9 @@ fn wrong(rt: &HostRuntime, text: &str) -> Answered {
 }
 
 /// What is wrong with a process.
-fn process_text(alloc: Global, fault: ProcessFault<'_>) -> Result<String, AllocError> {
+fn process_text(alloc: Global, fault: ProcessFault<'_>) -> Made<String> {
     match fault {
-        ProcessFault::NotText(pid) => {
-            format!(in alloc; "a word of process {pid} is not UTF-8\n")
-        }
+        ProcessFault::NotText(pid) => format!(in alloc; "a word of process {pid} is not UTF-8\n"),
         ProcessFault::NoDaemon(pid) => format!(in alloc; "process {pid} is no virtiofsd\n"),
         ProcessFault::Words(pid, fault) => {
             let text = fault_text(alloc, fault)?;
@@ -123,21 +120,19 @@ fn process_text(alloc: Global, fault: ProcessFault<'_>) -> Result<String, AllocE
 }
 
 /// What is answered on guests, and which words are not known.
-fn answer_on(
-    alloc: Global,
-    asked: Asked,
-    wanted: &Wanted,
-    questions: &[Question<'_>],
-    all: &Everyone<'_>,
-) -> Result<Answer, AllocError> {
+fn answer_on(alloc: Global, asked: Request<'_>, all: &Everyone<'_>) -> Made<Answer> {
     let mut unknown = Vec::new(alloc);
     for word in all.unknown.as_slice() {
         unknown.push(unknown_line(alloc, *word)?)?;
     }
     let guests = all.guests.as_slice();
-    let mut answer = match questions.is_empty() {
-        true => { answer_audit(alloc, request_of(asked, wanted, unknown.as_slice()), guests)? }
-        false => answer_questions(alloc, questions, guests)?,
+    let request = Request {
+        unknown: unknown.as_slice(),
+        ..asked
+    };
+    let mut answer = match asked.questions.is_empty() {
+        true => answer_audit(alloc, request, guests)?,
+        false => answer_questions(alloc, asked.questions, guests)?,
     };
     for line in unknown {
         answer.further.push(line)?;
@@ -146,94 +141,78 @@ fn answer_on(
 }
 
 /// The kinds that `--accept` names, and those in the files of `--accept-from`.
-fn accepted_by(rt: &HostRuntime, values: &Values<'_>) -> Result<Vec<Kind>, HostFault> {
-    let mut kinds = match read_kinds(rt.alloc(), values.accept.as_slice())? {
-        Ok(kinds) => kinds,
-        Err(text) => return Err(HostFault::Told(text)),
-    };
+fn accepted_by(rt: &HostRuntime, values: &Values<'_>) -> Read<Vec<Kind>> {
+    let mut kinds = Vec::new(rt.alloc());
+    read_kinds(rt.alloc(), "", values.accept.as_slice(), &mut kinds)?;
     for path in values.accept_from.as_slice() {
-        let text = named_text(rt, path)?;
+        let (text, place) = (named_text(rt, path)?, format!(in rt.alloc(); "{path}: ")?);
         let words = words_in(rt.alloc(), text.as_str())?;
-        match read_kinds(rt.alloc(), words.as_slice())? {
-            Ok(more) => kinds.extend_from_slice(more.as_slice())?,
-            Err(text) => return Err(HostFault::Told(format!(in rt.alloc(); "{path}: {text}")?)),
-        }
+        read_kinds(rt.alloc(), place.as_str(), words.as_slice(), &mut kinds)?;
     }
     Ok(kinds)
 }
 
 /// The names that ids of this host have, where processes are asked for.
-fn known_here(rt: &HostRuntime, has_some: bool) -> Result<Known, AllocError> {
-    if !has_some {
-        return Ok(Known {
-            users: Vec::new(rt.alloc()),
-            groups: Vec::new(rt.alloc()),
-        });
+fn known_here(rt: &HostRuntime, has_some: bool) -> Read<Known> {
+    let (mut users, mut groups) = (Vec::new(rt.alloc()), Vec::new(rt.alloc()));
+    if has_some {
+        users = any_content(rt, "/etc/passwd")?;
+        groups = any_content(rt, "/etc/group")?;
     }
-    Ok(Known {
-        users: any_content(rt, "/etc/passwd")?,
-        groups: any_content(rt, "/etc/group")?,
-    })
+    Ok(Known { users, groups })
 }
 
 /// Reads the values of the options, asks the host, and answers.
-fn audited<'a>(
+fn said_of<'a>(
     rt: &HostRuntime,
-    asked: Asked,
+    front: Asked,
     values: &Values<'a>,
     given: Guests<'a>,
-) -> Result<Answered, AnswerFault> {
-    let accepted = match accepted_by(rt, values) {
-        Ok(kinds) => kinds,
-        Err(HostFault::Told(text)) => return Ok(wrong(rt, text.as_str())),
-        Err(HostFault::OutOfMemory) => return Err(AnswerFault::OutOfMemory),
-    };
+) -> Read<Vec<Said>> {
+    let accepted = accepted_by(rt, values)?;
     let questions = match read_questions(rt.alloc(), values.explain.as_slice())? {
         Questions::Read(questions) => questions,
         Questions::Wrong(text, fault) => {
-            let text = question_sentence(rt.alloc(), text, fault)?;
-            return Ok(wrong(rt, text.as_str()));
+            return Err(told(question_sentence(rt.alloc(), text, fault)));
         }
     };
-    let host = match ask(rt, asked, values, given.guests.as_slice()) {
-        Ok(host) => host,
-        Err(HostFault::Told(text)) => return Ok(wrong(rt, text.as_str())),
-        Err(HostFault::OutOfMemory) => return Err(AnswerFault::OutOfMemory),
+    let host = ask(rt, front, values, given.guests.as_slice())?;
+    let known = known_here(rt, front.running || !values.pid.is_empty())?;
+    let asked = Request {
+        front,
+        accepted: accepted.as_slice(),
+        known: &known,
+        questions: questions.as_slice(),
+        unknown: &[],
     };
-    let known = known_here(rt, asked.running || !values.pid.is_empty())?;
-    let wanted = Wanted { accepted, known };
-    audited_on(rt, asked, &wanted, questions.as_slice(), &host, given)
+    said_on(rt, asked, &host, given)
 }
 
 /// The lines on processes of a directory that are not checked.
-fn unread_lines(
-    alloc: Global,
-    share: &Share,
-    faults: &[ProcessFault<'_>],
-) -> Result<Vec<String>, AllocError> {
+fn not_checked(alloc: Global, unread: &[String], faults: &[ProcessFault<'_>]) -> Made<Vec<String>> {
     let mut lines = Vec::new(alloc);
-    for why in share.unread.as_slice() {
-        let why = why.as_str().trim_end();
-        lines.push(format!(in alloc; "not checked: {why}")?)?;
-    }
     for fault in faults {
-        let text = process_text(alloc, *fault)?;
-        let why = text.as_str().trim_end();
-        lines.push(format!(in alloc; "not checked: {why}")?)?;
+        lines.push(process_text(alloc, *fault)?)?;
     }
-    Ok(lines)
+    let line = |why: &String| {
+        let why = why.as_str().trim_end();
+        format!(in alloc; "not checked: {why}")
+    };
+    unread
+        .iter()
+        .chain(lines.iter())
+        .map(line)
+        .try_collect(alloc)
 }
 
-/// Answers on the guests of command lines, and on those of the host's processes: on each directory by
-/// itself, where those that run are asked for.
-fn audited_on<'a>(
+/// What is said of the guests of command lines, and of those of the host's processes: of each directory
+/// by itself, where those that run are asked for.
+fn said_on<'a>(
     rt: &HostRuntime,
-    asked: Asked,
-    wanted: &Wanted,
-    questions: &[Question<'_>],
+    asked: Request<'_>,
     host: &'a Host,
     given: Guests<'a>,
-) -> Result<Answered, AnswerFault> {
+) -> Read<Vec<Said>> {
     let mut said = Vec::new(rt.alloc());
     let mut left = Some(given);
     for share in host.shares.as_slice() {
@@ -243,23 +222,23 @@ fn audited_on<'a>(
         });
         let (starters, processes) = (host.starters.as_slice(), share.processes.as_slice());
         let all = all_guests(rt.alloc(), OF_DAEMON, given, starters, processes)?;
-        if !asked.running
+        if !asked.front.running
             && let Some(fault) = all.faults.first()
         {
-            return Ok(wrong(rt, process_text(rt.alloc(), *fault)?.as_str()));
+            return Err(told(process_text(rt.alloc(), *fault)));
         }
         said.push(Said {
-            directory: share.directory.as_str(),
-            answer: answer_on(rt.alloc(), asked, wanted, questions, &all)?,
+            directory: String::from_str(rt.alloc(), share.directory.as_str())?,
+            answer: answer_on(rt.alloc(), asked, &all)?,
             has_guests: !all.guests.is_empty(),
-            unread: unread_lines(rt.alloc(), share, all.faults.as_slice())?,
+            unread: not_checked(rt.alloc(), share.unread.as_slice(), all.faults.as_slice())?,
         })?;
     }
-    told_of(rt, asked, said.as_slice())
+    Ok(said)
 }
 
 /// Writes what is said of directories.
-fn told_of(rt: &HostRuntime, asked: Asked, said: &[Said<'_>]) -> Result<Answered, AnswerFault> {
+fn told_of(rt: &HostRuntime, asked: Asked, said: &[Said]) -> Result<Answered, AnswerFault> {
     let text = whole_text(rt.alloc(), asked, said)?;
     let lines = whole_lines(rt.alloc(), asked, said)?;
     write_whole(rt, text.as_str())?;

@@ -4,31 +4,17 @@
 //! belong together, and what is found of them.
 
 mod bands;
-mod faulty;
-mod panel;
-mod text;
 
-use crate::refusal::refusal_line;
+use crate::answer::Reported;
 use crate::shell::push_options;
-use crate::summary::{push_numbers, push_runner, push_summary};
-use crate::text::{are_of_same, found_of, guests_of, is_of_one, push_found};
-use crate::words::one_of;
-use bands::{LOOKS, bands_of};
-use faulty::faulty_of;
-use panel::{BAND, push_panel};
-use std::alloc::{AllocError, Global};
-use text::push_first;
-use virtiofs_findings::alike::{Alike, is_first, is_told, likes_of};
+use crate::summary::{Page, Told, alone_in, groups_of, refusal_line, told_guests};
+use crate::words::{Done, Made, of_kind, one_of};
+use bands::{BAND, LOOKS, bands_of, faulty_of, push_panel};
+use std::alloc::Global;
 use virtiofs_findings::audit::{Audited, has_accepted, has_found};
-use virtiofs_findings::finding::{Finding, Kind};
-use virtiofs_findings::guest::Guest;
+use virtiofs_findings::finding::Kind;
 use virtiofs_findings::ids::kind::IdKind;
-use virtiofs_findings::setup::{IdSetUp, SetUp};
-
-/// What is made, or that memory ran out.
-type Made<T> = Result<T, AllocError>;
-
-type Done = Made<()>;
+use virtiofs_findings::setup::IdSetUp;
 
 /// What is set up for ids of a kind, if no value is refused.
 type IdSet = Option<IdSetUp<Global>>;
@@ -57,18 +43,50 @@ fn only_if(holds: bool, words: &'static str) -> &'static str {
     if holds { words } else { "" }
 }
 
+/// How many of some words to write, where there is room for so many bytes: whole options, else whole
+/// words, else whole parts of one.
+fn fitting(words: &[u8], most: usize) -> usize {
+    let (first, left) = words.split_at(most.min(words.len()));
+    for stop in [b'\n', b' ', b':'] {
+        if let Some(place) = first.iter().rposition(|byte| *byte == stop)
+            && !left.is_empty()
+        {
+            return place.saturating_add(1);
+        }
+    }
+    first.len()
+}
+
+/// Writes the first of some words, as XML has them, and hands back those that are left.
+fn push_first<'w>(text: &mut String, words: &'w [u8], most: usize) -> Made<&'w [u8]> {
+    let (first, left) = words.split_at(fitting(words, most).min(words.len()));
+    for byte in first {
+        match byte {
+            b'&' => text.push_str("&amp;")?,
+            b'<' => text.push_str("&lt;")?,
+            b'>' => text.push_str("&gt;")?,
+            b'\n' => text.push(' ')?,
+            b' '..=b'~' => text.push(char::from(*byte))?,
+            _ => text.push('?')?,
+        }
+    }
+    Ok(left)
+}
+
 /// A drawing that is being made.
 #[derive(Drop)]
 struct Drawing<'a> {
-    alloc: Global,
-    /// The kinds of findings that are accepted.
-    accepted: &'a [Kind],
     /// What is drawn so far, and how far down.
-    text: String,
+    page: Page<'a>,
     y: u64,
 }
 
-impl Drawing<'_> {
+impl<'a> Drawing<'a> {
+    /// An empty page, for what is drawn as lines.
+    fn new_page(&self) -> Page<'a> {
+        Page::new(self.page.alloc, self.page.accepted)
+    }
+
     fn skip(&mut self, height: u64) {
         self.y = self.y.saturating_add(height);
     }
@@ -79,10 +97,10 @@ impl Drawing<'_> {
         for count in 1..=4 {
             self.skip(15);
             let y = self.y;
-            write!(self.text, "<text x='20' y='{y}' {paint}>")?;
-            left = push_first(&mut self.text, left, 150)?;
+            write!(self.page.text, "<text x='20' y='{y}' {paint}>")?;
+            left = push_first(&mut self.page.text, left, 150)?;
             let more = only_if(count == 4 && !left.is_empty(), " ..");
-            write!(self.text, "{more}</text>\n")?;
+            write!(self.page.text, "{more}</text>\n")?;
             if left.is_empty() {
                 break;
             }
@@ -94,37 +112,39 @@ impl Drawing<'_> {
     fn push_legend(&mut self) -> Done {
         for (place, (_, fill, word)) in LOOKS.iter().enumerate() {
             let (x, y) = (place % 9 / 3 * 350 + 20, place % 3 * 20 + 20);
-            write!(self.text, "<path fill='{fill}' {BAND} d='M{x} {y}")?;
-            self.text.push_str("h26v11h-26z'/>")?;
+            write!(
+                self.page.text,
+                "<path fill='{fill}' {BAND} d='M{x} {y}h26v11h-26z'/>"
+            )?;
             let (x, y) = (x + 34, y + 10);
-            write!(self.text, "<text x='{x}' y='{y}'>{word}</text>\n")?;
+            write!(self.page.text, "<text x='{x}' y='{y}'>{word}</text>\n")?;
         }
         Ok(())
     }
 
     /// Draws what becomes of ids of a kind, or writes why not. How high that is is handed back.
-    fn push_kind(
-        &mut self,
-        x: u64,
-        kind: IdKind,
-        set: &IdSet,
-        found: &[Finding<Global>],
-    ) -> Made<u64> {
-        let (one, y, mut height) = (one_of(kind), self.y, 0);
-        let faulty = faulty_of(self.alloc, kind, self.accepted, found)?;
-        write!(self.text, "<g transform='translate({x} {y})'>\n")?;
-        match bands_of(self.alloc, set, faulty.as_slice())? {
-            Err(why) => write!(self.text, "<text>{one}s: {why}</text>\n")?,
+    fn push_kind(&mut self, x: u64, kind: IdKind, told: &Told<'_>) -> Made<u64> {
+        let (alloc, y, one) = (self.page.alloc, self.y, one_of(kind));
+        let set = of_kind(kind, &told.set.users, &told.set.groups);
+        let faulty = faulty_of(&self.page, kind, told.found)?;
+        let (text, mut height) = (&mut self.page.text, 0);
+        write!(text, "<g transform='translate({x} {y})'>\n")?;
+        match bands_of(alloc, set, faulty.as_slice())? {
+            Err(why) => write!(text, "<text>{one}s: {why}</text>\n")?,
             Ok(bands) => {
-                let is_inside = set.as_ref().is_some_and(|set| !set.ranges.is_empty());
+                let ranges = match set {
+                    Some(set) => set.ranges.as_slice(),
+                    None => &[],
+                };
+                let is_inside = !ranges.is_empty() && alone_in(ranges).is_none();
                 let outside = only_if(is_inside, ", outside the namespace");
-                write!(self.text, "<text text-anchor='end' {GREY}>guest</text>\n")?;
-                write!(self.text, "<text x='75' font-weight='bold'>{one}s</text>\n")?;
-                write!(self.text, "<text x='180' {GREY}>host{outside}</text>\n")?;
-                height = push_panel(self.alloc, &mut self.text, bands.as_slice())?;
+                write!(text, "<text text-anchor='end' {GREY}>guest</text>\n")?;
+                write!(text, "<text x='75' font-weight='bold'>{one}s</text>\n")?;
+                write!(text, "<text x='180' {GREY}>host{outside}</text>\n")?;
+                height = push_panel(alloc, text, bands.as_slice())?;
             }
         }
-        self.text.push_str("</g>\n")?;
+        text.push_str("</g>\n")?;
         Ok(height)
     }
 
@@ -139,7 +159,7 @@ impl Drawing<'_> {
         }
         let more = lines.split('\n').count().saturating_sub(MOST + 1);
         if more > 0 {
-            let words = format!(in self.alloc; "and {more} more findings")?;
+            let words = format!(in self.page.alloc; "and {more} more findings")?;
             self.push_lines(RED, words.as_str())?;
         }
         self.skip(8);
@@ -147,106 +167,71 @@ impl Drawing<'_> {
     }
 
     /// Writes which guests have options, with their process, and these: drawn, and told with what they do.
-    fn push_heading(
-        &mut self,
-        likes: &[Alike],
-        alike: Alike,
-        guest: &Guest<'_, Global>,
-        set: &SetUp<Global>,
-    ) -> Done {
-        let (mut numbers, mut options) = (String::new(self.alloc), String::new(self.alloc));
-        push_numbers(self.alloc, &mut numbers, likes, alike)?;
-        push_runner(&mut numbers, guest)?;
-        push_options(self.alloc, &mut options, "", "\n", &guest.options)?;
+    fn push_heading(&mut self, told: &Told<'_>) -> Done {
+        let (mut who, mut options) = (self.new_page(), String::new(self.page.alloc));
+        who.push_who(told)?;
+        push_options(who.alloc, &mut options, "", "\n", &told.guest.options)?;
         options.push_str(only_if(options.is_empty(), "no option for ids or names"))?;
-        self.push_lines(BOLD, numbers.as_str())?;
-        self.push_lines(GREY, options.as_str())?;
-        write!(self.text, "<title>{numbers}</title>\n<desc>")?;
-        push_summary(self.alloc, &mut self.text, likes, alike, guest, set)?;
-        push_first(&mut self.text, options.as_str().as_bytes(), 6000)?;
-        self.text.push_str("</desc>\n")
+        let (who, options) = (who.text.as_str(), options.as_str());
+        self.push_lines(BOLD, who)?;
+        self.push_lines(GREY, options)?;
+        write!(self.page.text, "<title>{who}</title>\n<desc>")?;
+        self.page.push_summary(told)?;
+        push_first(&mut self.page.text, options.as_bytes(), 6000)?;
+        self.page.text.push_str("</desc>\n")
     }
 
     /// Draws a guest, and writes what is found of it.
-    fn push_guest(
-        &mut self,
-        likes: &[Alike],
-        alike: Alike,
-        guest: &Guest<'_, Global>,
-        set: &SetUp<Global>,
-        all: &Audited<Global>,
-    ) -> Done {
-        let found = found_of(all.findings.as_slice(), alike.first);
+    fn push_guest(&mut self, told: &Told<'_>, all: &Audited<Global>) -> Done {
         self.skip(16);
-        self.text.push_str("<g>\n")?;
-        self.push_heading(likes, alike, guest, set)?;
+        self.page.text.push_str("<g>\n")?;
+        self.push_heading(told)?;
         self.skip(28);
-        let users = self.push_kind(174, IdKind::Users, &set.users, found)?;
-        let groups = self.push_kind(706, IdKind::Groups, &set.groups, found)?;
+        let users = self.push_kind(174, IdKind::Users, told)?;
+        let groups = self.push_kind(706, IdKind::Groups, told)?;
         self.skip(users.max(groups).saturating_add(32));
-        let mut lines = String::new(self.alloc);
-        for refusal in all.refusals.as_slice() {
-            if refusal.guest == alike.first {
-                let line = refusal_line(self.alloc, refusal)?;
-                write!(lines, "{line}\n")?;
-            }
+        let mut page = self.new_page();
+        for refusal in all.refusals.iter().filter(|it| it.guest == told.number) {
+            let line = refusal_line(page.alloc, refusal)?;
+            write!(page.text, "{line}\n")?;
         }
-        push_found(self.alloc, &mut lines, self.accepted, found)?;
-        self.push_findings(lines.as_str())?;
-        self.text.push_str("</g>\n")
+        page.push_found(told.found)?;
+        self.push_findings(page.text.as_str())?;
+        self.page.text.push_str("</g>\n")
     }
 
     /// Draws guests, those with the same options once, and writes what is found of each two.
-    fn push_guests(&mut self, guests: &[Guest<'_, Global>], all: &Audited<Global>) -> Done {
-        let (likes, found) = (likes_of(self.alloc, guests)?, all.findings.as_slice());
-        let likes = likes.as_slice();
-        for (place, (guest, set)) in guests.iter().zip(all.sets.iter()).enumerate() {
-            if let Some(alike) = likes.get(place)
-                && is_first(*alike, place.saturating_add(1))
-            {
-                self.push_guest(likes, *alike, guest, set, all)?;
+    fn push_guests(&mut self, report: &Reported<'_>) -> Done {
+        let (guests, all) = (report.guests, &report.all);
+        let (alloc, accepted) = (self.page.alloc, self.page.accepted);
+        let (sets, found) = (all.sets.as_slice(), all.findings.as_slice());
+        for told in told_guests(alloc, guests, sets, found)? {
+            self.push_guest(&told, all)?;
+        }
+        for (first, second, group) in groups_of(alloc, guests, found)? {
+            if first != second {
+                let mut page = self.new_page();
+                page.push_found(group)?;
+                self.push_findings(page.text.as_str())?;
             }
         }
-        for group in found.chunk_by(|a, b| are_of_same(a, b)) {
-            if let Some(one) = group.first()
-                && !is_of_one(one)
-                && is_told(likes, guests_of(one).0, guests_of(one).1)
-            {
-                let mut lines = String::new(self.alloc);
-                push_found(self.alloc, &mut lines, self.accepted, group)?;
-                self.push_findings(lines.as_str())?;
-            }
+        match has_accepted(accepted, found) {
+            _ if has_found(accepted, found) || !all.refusals.is_empty() => Ok(()),
+            true => self.push_lines(BOLD, "nothing else found"),
+            false => self.push_lines(BOLD, "nothing found"),
         }
-        if has_found(self.accepted, found) || !all.refusals.is_empty() {
-            return Ok(());
-        }
-        let other = only_if(has_accepted(self.accepted, found), "else ");
-        let words = format!(in self.alloc; "nothing {other}found")?;
-        self.push_lines(BOLD, words.as_str())
     }
 }
 
 /// The drawing of guests, and of what is found of them.
-pub(crate) fn report_as_svg(
-    alloc: Global,
-    accepted: &[Kind],
-    guests: &[Guest<'_, Global>],
-    all: &Audited<Global>,
-) -> Made<String> {
-    let (text, y) = (String::new(alloc), 72);
-    let mut drawing = Drawing {
-        alloc,
-        accepted,
-        text,
-        y,
-    };
+pub(crate) fn as_svg(alloc: Global, accepted: &[Kind], report: &Reported<'_>) -> Made<String> {
+    let page = Page::new(alloc, accepted);
+    let mut drawing = Drawing { page, y: 72 };
     drawing.push_legend()?;
-    drawing.push_guests(guests, all)?;
-    drawing.skip(20);
-    let (drawn, height, mut text) = (drawing.text.as_str(), drawing.y, String::new(alloc));
-    text.push_str("<svg xmlns=\"http://www.w3.org/2000/svg\" version=\"1.1\" ")?;
-    write!(text, "width='1080' height='{height}' ")?;
-    write!(text, "viewBox='0 0 1080 {height}' ")?;
-    write!(text, "{HEAD}{height}H0z'/>\n{drawn}</svg>\n")?;
-    Ok(text)
+    drawing.push_guests(report)?;
+    let (drawn, height) = (drawing.page.text.as_str(), drawing.y.saturating_add(20));
+    format!(in alloc;
+        "<svg xmlns=\"http://www.w3.org/2000/svg\" version=\"1.1\" \
+        width='1080' height='{height}' viewBox='0 0 1080 {height}' {HEAD}{height}H0z'/>\n{drawn}</svg>\n"
+    )
 }

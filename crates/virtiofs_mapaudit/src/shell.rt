@@ -1,7 +1,7 @@
 //! Options of a guest, as words, and as a shell reads them.
 
-use crate::words::{ranging, translating};
-use std::alloc::{AllocError, Global};
+use crate::words::{Done, Made, ranging, translating};
+use std::alloc::Global;
 use std::fmt;
 use virtiofs_findings::ids::kind::IdKind;
 use virtiofs_options::guest::Guest as GuestOptions;
@@ -39,15 +39,17 @@ impl fmt::Display for ShellWord<'_> {
     }
 }
 
-/// The options of a guest for ids, names and access control lists, each with its value if it has one,
-/// in the order in which they are written. Lists that are on by `-o posix_acl` stay so: beside
-/// `--posix-acl` virtiofsd takes no translation of ids. `--xattr` stands where neither these lists nor
-/// rules imply it.
+/// An option as a word, and its value, if it has one.
+type Word<'g> = (&'static str, Option<&'g str>);
+
+/// The options of a guest for ids, names and access control lists, in the order in which they are
+/// written. Lists that are on by `-o posix_acl` stay so: beside `--posix-acl` virtiofsd takes no
+/// translation of ids. `--xattr` stands where neither these lists nor rules imply it.
 pub(crate) fn words_of<'g>(
     alloc: Global,
     guest: &'g GuestOptions<'_, Global>,
-) -> Result<Vec<(&'static str, Option<&'g str>)>, AllocError> {
-    let mut words: Vec<(&'static str, Option<&'g str>)> = Vec::new(alloc);
+) -> Made<Vec<Word<'g>>> {
+    let mut words: Vec<Word<'g>> = Vec::new(alloc);
     for (option, values) in [
         (translating(IdKind::Users), &guest.translate_uid),
         (translating(IdKind::Groups), &guest.translate_gid),
@@ -61,15 +63,13 @@ pub(crate) fn words_of<'g>(
     if let Some(rules) = guest.xattrmap {
         words.push(("--xattrmap", Some(rules)))?;
     }
-    if guest.posix_acl {
-        words.push(if guest.acl_flag {
-            ("--posix-acl", None)
-        } else {
-            ("-o", Some("posix_acl"))
-        })?;
-    }
-    if guest.has_xattrs() && guest.xattrmap.is_none() && !guest.posix_acl {
-        words.push(("--xattr", None))?;
+    match (guest.posix_acl, guest.acl_flag) {
+        (true, true) => words.push(("--posix-acl", None))?,
+        (true, false) => words.push(("-o", Some("posix_acl")))?,
+        (false, _) if guest.has_xattrs() && guest.xattrmap.is_none() => {
+            words.push(("--xattr", None))?;
+        }
+        _ => {}
     }
     Ok(words)
 }
@@ -87,10 +87,9 @@ pub(crate) fn push_options(
     before: &str,
     after: &str,
     guest: &GuestOptions<'_, Global>,
-) -> Result<(), AllocError> {
+) -> Done {
     for (option, value) in words_of(alloc, guest)? {
-        text.push_str(before)?;
-        text.push_str(option)?;
+        write!(text, "{before}{option}")?;
         if let Some(value) = value {
             let (between, word) = (if is_joined(value) { '=' } else { ' ' }, ShellWord(value));
             write!(text, "{between}{word}")?;

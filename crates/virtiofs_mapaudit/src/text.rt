@@ -2,298 +2,168 @@
 
 use crate::answer::{Reported, Request};
 use crate::fields::push_finding;
-use crate::kinds::{KERNEL, RECIPES, row_of};
-use crate::known::push_known;
+use crate::kinds::{KERNEL, RECIPES, recipe_of};
 use crate::losses::losses_of;
 use crate::shell::push_options;
-use crate::summary::{is_in_namespace, is_of_root, push_numbers, push_set_up, push_summary};
-use crate::tables::push_tables;
-use std::alloc::{AllocError, Global};
+use crate::summary::{Page, Told, groups_of, is_in_namespace, is_of_root, told_guests};
+use crate::words::{Done, Found, Guest, Made, Set};
+use std::alloc::Global;
 use virtiofs_findings::advice::Advised;
-use virtiofs_findings::alike::{Alike, is_first, is_told, likes_of};
 use virtiofs_findings::audit::{has_accepted, has_found, is_accepted};
-use virtiofs_findings::finding::{About, Finding, Kind};
-use virtiofs_findings::guest::Guest;
-use virtiofs_findings::setup::SetUp;
-
-/// The guests that a finding is about, the lesser number first; one guest has its number twice.
-pub(crate) fn guests_of(finding: &Finding<Global>) -> (usize, usize) {
-    match finding.about {
-        About::Guest(number) => (number, number),
-        About::Pair(first, second) => (first.min(second), first.max(second)),
-    }
-}
-
-/// Whether a finding is about a single guest.
-pub(crate) fn is_of_one(finding: &Finding<Global>) -> bool {
-    matches!(finding.about, About::Guest(_))
-}
-
-/// Whether both are about the same guests.
-pub(crate) fn are_of_same(finding: &Finding<Global>, other: &Finding<Global>) -> bool {
-    guests_of(finding) == guests_of(other)
-}
-
-/// What is found of the guest of a number by itself.
-pub(crate) fn found_of(found: &[Finding<Global>], number: usize) -> &[Finding<Global>] {
-    for group in found.chunk_by(|a, b| are_of_same(a, b)) {
-        if let Some(first) = group.first()
-            && first.about == About::Guest(number)
-        {
-            return group;
-        }
-    }
-    &[]
-}
-
-/// Writes those of the findings at the end of a text that are accepted, or those that are not.
-fn push_those(
-    alloc: Global,
-    text: &mut String,
-    accepted: &[Kind],
-    are_accepted: bool,
-    found: &[Finding<Global>],
-) -> Result<(), AllocError> {
-    for finding in found {
-        if is_accepted(accepted, finding.kind) == are_accepted {
-            text.push_str(if are_accepted { "accepted: " } else { "" })?;
-            push_finding(alloc, text, row_of(finding.kind).sentence, finding)?;
-        }
-    }
-    Ok(())
-}
-
-/// Writes findings at the end of a text: those that count, and then those that are accepted.
-pub(crate) fn push_found(
-    alloc: Global,
-    text: &mut String,
-    accepted: &[Kind],
-    found: &[Finding<Global>],
-) -> Result<(), AllocError> {
-    push_those(alloc, text, accepted, false, found)?;
-    push_those(alloc, text, accepted, true, found)
-}
-
-/// Writes what is said of each guest at the end of a text: of those with the same options once.
-fn push_guests(
-    alloc: Global,
-    text: &mut String,
-    request: Request<'_>,
-    guests: &[Guest<'_, Global>],
-    likes: &[Alike],
-    report: &Reported<'_>,
-) -> Result<(), AllocError> {
-    for (place, guest) in guests.iter().enumerate() {
-        let number = place.saturating_add(1);
-        let (Some(alike), Some(set)) = (likes.get(place), report.all.sets.as_slice().get(place))
-        else {
-            continue;
-        };
-        if !is_first(*alike, number) {
-            continue;
-        }
-        push_summary(alloc, text, likes, *alike, guest, set)?;
-        push_known(alloc, text, request.known, guest, set)?;
-        push_tables(alloc, text, request.front.ids, request.front.names, set)?;
-        let found = found_of(report.all.findings.as_slice(), number);
-        push_found(alloc, text, request.accepted, found)?;
-    }
-    Ok(())
-}
-
-/// Writes what is found between two guests at the end of a text; of those with the same options once.
-fn push_pairs(
-    alloc: Global,
-    text: &mut String,
-    accepted: &[Kind],
-    likes: &[Alike],
-    found: &[Finding<Global>],
-) -> Result<(), AllocError> {
-    for group in found.chunk_by(|a, b| are_of_same(a, b)) {
-        let Some(one) = group.first() else {
-            continue;
-        };
-        let (first, second) = guests_of(one);
-        if !is_of_one(one) && is_told(likes, first, second) {
-            push_found(alloc, text, accepted, group)?;
-        }
-    }
-    Ok(())
-}
-
-/// Writes what is still found of guests, or between two, at the end of a text.
-fn push_left(
-    alloc: Global,
-    text: &mut String,
-    accepted: &[Kind],
-    likes: &[Alike],
-    found: &[Finding<Global>],
-) -> Result<(), AllocError> {
-    for group in found.chunk_by(|a, b| are_of_same(a, b)) {
-        let Some(one) = group.first() else {
-            continue;
-        };
-        let (first, second) = guests_of(one);
-        if !is_told(likes, first, second) || !has_found(accepted, group) {
-            continue;
-        }
-        if is_of_one(one) {
-            write!(text, "still found of guest {first}:\n")?;
-        } else {
-            write!(text, "still found between guests {first} and {second}:\n")?;
-        }
-        push_those(alloc, text, accepted, false, group)?;
-    }
-    Ok(())
-}
+use virtiofs_findings::finding::{About, Kind};
 
 /// The recipe for a finding. In a namespace, and with access control lists on, virtiofsd is to run as
 /// another user, since specifications go with neither.
-fn recipe_of(
-    guests: &[Guest<'_, Global>],
-    sets: &[SetUp<Global>],
-    finding: &Finding<Global>,
-) -> Option<&'static str> {
+fn recipe_for(guests: &[Guest<'_>], sets: &[Set], finding: &Found) -> Option<&'static str> {
     let is_of_ids = matches!(finding.kind, Kind::Root | Kind::Lacking);
     if let About::Guest(number) = finding.about
         && let Some(guest) = guests.get(number.saturating_sub(1))
         && let Some(set) = sets.get(number.saturating_sub(1))
         && is_of_ids
     {
-        let has_ranges = match &set.users {
-            Some(users) => !users.ranges.is_empty(),
-            None => false,
-        };
+        let users = set.users.as_ref();
+        let has_ranges = users.is_some_and(|users| !users.ranges.is_empty());
         let in_namespace = has_ranges || is_in_namespace(guest);
         if set.posix_acl || in_namespace && finding.kind == Kind::Root {
             return Some(KERNEL);
         }
     }
-    row_of(finding.kind).recipe
+    recipe_of(finding.kind)
 }
 
-/// Writes the recipes for findings that count at the end of a text, each once, or that there is none.
-fn push_recipes(
-    text: &mut String,
-    accepted: &[Kind],
-    guests: &[Guest<'_, Global>],
-    sets: &[SetUp<Global>],
-    found: &[Finding<Global>],
-) -> Result<(), AllocError> {
-    let mut has_one = false;
-    for recipe in RECIPES {
-        if found.iter().any(|it| !is_accepted(accepted, it.kind)
-            && recipe_of(guests, sets, it) == Some(recipe))
-        {
-            text.push_str(if has_one {
-                ", "
-            } else {
-                "recipes of ADMIN.md for this: "
-            })?;
-            write!(text, "'{recipe}'")?;
-            has_one = true;
-        }
-    }
-    text.push_str(if has_one {
-        "\n"
-    } else {
-        "no other options are known to mend this\n"
-    })
-}
-
-/// Writes what the advised options of a guest are and do at the end of a text; of guests that then have
-/// the same options once.
-fn push_other(
-    alloc: Global,
-    text: &mut String,
-    before: &[SetUp<Global>],
-    advised: &Advised<'_, Global>,
-    likes: &[Alike],
-    place: usize,
-    guest: &Guest<'_, Global>,
-) -> Result<(), AllocError> {
-    let (Some(set), Some(other), Some(alike)) = (
-        before.get(place),
-        advised.sets.as_slice().get(place),
-        likes.get(place),
-    ) else {
-        return Ok(());
-    };
-    if !is_first(*alike, place.saturating_add(1)) {
-        return Ok(());
-    }
-    text.push_str("  ")?;
-    push_numbers(alloc, text, likes, *alike)?;
-    text.push_str(":")?;
-    push_options(alloc, text, " ", "", &guest.options)?;
-    text.push_str("\n")?;
-    push_set_up(text, "    ", guest, other)?;
-    for loss in losses_of(alloc, set, other)? {
-        let line = loss.line;
-        write!(text, "    {line}\n")?;
-    }
-    Ok(())
-}
-
-/// Writes options that are advised, what they do, and what is still found with them, at the end of a
-/// text.
-fn push_advised(
-    alloc: Global,
-    text: &mut String,
-    accepted: &[Kind],
-    before: &[SetUp<Global>],
-    advised: &Advised<'_, Global>,
-) -> Result<(), AllocError> {
-    let (guests, found) = (advised.guests.as_slice(), advised.findings.as_slice());
-    text.push_str(
-        match (has_found(accepted, found), has_accepted(accepted, found)) {
-            (true, _) => "with these options less is found:\n",
-            (false, true) => "with these options nothing else is found:\n",
-            (false, false) => "with these options nothing is found:\n",
-        },
-    )?;
-    let likes = likes_of(alloc, guests)?;
-    for (place, guest) in guests.iter().enumerate() {
-        push_other(alloc, text, before, advised, likes.as_slice(), place, guest)?;
-    }
-    push_left(alloc, text, accepted, likes.as_slice(), found)?;
-    if has_found(accepted, found) {
-        push_recipes(text, accepted, guests, advised.sets.as_slice(), found)?;
-    }
-    Ok(())
-}
-
-/// What is said at the end: what to do about what was found, or that nothing was.
-fn push_closing(
-    alloc: Global,
-    text: &mut String,
-    accepted: &[Kind],
-    guests: &[Guest<'_, Global>],
-    report: &Reported<'_>,
-) -> Result<(), AllocError> {
-    let found = report.all.findings.as_slice();
-    let are_refused = !report.all.refusals.as_slice().is_empty();
-    if has_found(accepted, found) {
-        if are_refused {
-            return Ok(());
-        }
-        return match &report.advised {
-            Some(advised) => {
-                push_advised(alloc, text, accepted, report.all.sets.as_slice(), advised)
+impl Page<'_> {
+    /// Writes those of the findings that count (`false`), those that are accepted (`true`), or both.
+    fn push_those(&mut self, those: &[bool], found: &[Found]) -> Done {
+        for are_accepted in those {
+            let begin = if *are_accepted { "accepted: " } else { "" };
+            for finding in found {
+                if is_accepted(self.accepted, finding.kind) == *are_accepted {
+                    self.text.push_str(begin)?;
+                    push_finding(self.alloc, &mut self.text, finding)?;
+                }
             }
-            None => push_recipes(text, accepted, guests, report.all.sets.as_slice(), found),
-        };
+        }
+        Ok(())
     }
-    text.push_str(match (are_refused, has_accepted(accepted, found)) {
-        (true, false) => "nothing found in what is told\n",
-        (true, true) => "nothing else found in what is told\n",
-        (false, false) => "nothing found\n",
-        (false, true) => "nothing else found\n",
-    })
+
+    /// Writes findings: those that count, and then those that are accepted.
+    pub(crate) fn push_found(&mut self, found: &[Found]) -> Done {
+        self.push_those(&[false, true], found)
+    }
+
+    /// Writes what is said of each guest, of those with the same options once, and of each two.
+    fn push_guests(&mut self, request: Request<'_>, report: &Reported<'_>) -> Done {
+        let guests = report.guests;
+        let (sets, found) = (report.all.sets.as_slice(), report.all.findings.as_slice());
+        for told in told_guests(self.alloc, guests, sets, found)? {
+            self.push_summary(&told)?;
+            self.push_known(request.known, &told)?;
+            self.push_tables(request.front.ids, request.front.names, told.set)?;
+            self.push_found(told.found)?;
+        }
+        for (first, second, group) in groups_of(self.alloc, guests, found)? {
+            if first != second {
+                self.push_found(group)?;
+            }
+        }
+        Ok(())
+    }
+
+    /// Writes what is still found of guests, or between two.
+    fn push_left(&mut self, guests: &[Guest<'_>], found: &[Found]) -> Done {
+        for (first, second, group) in groups_of(self.alloc, guests, found)? {
+            if has_found(self.accepted, group) {
+                self.text.push_str("still found ")?;
+                match first == second {
+                    true => write!(self.text, "of guest {first}:\n")?,
+                    false => write!(self.text, "between guests {first} and {second}:\n")?,
+                }
+                self.push_those(&[false], group)?;
+            }
+        }
+        Ok(())
+    }
+
+    /// Writes the recipes for findings that count, each once, or that there is none.
+    fn push_recipes(&mut self, guests: &[Guest<'_>], sets: &[Set], found: &[Found]) -> Done {
+        let mut count = 0usize;
+        for recipe in RECIPES {
+            if found.iter().any(|it| {
+                !is_accepted(self.accepted, it.kind) && recipe_for(guests, sets, it) == Some(recipe)
+            }) {
+                let begin = if count == 0 {
+                    "recipes of ADMIN.md for this: "
+                } else {
+                    ", "
+                };
+                write!(self.text, "{begin}'{recipe}'")?;
+                count = count.saturating_add(1);
+            }
+        }
+        self.text.push_str(match count {
+            0 => "no other options are known to mend this\n",
+            _ => "\n",
+        })
+    }
+
+    /// Writes what the advised options of guests that then have the same are and do, and what is lost.
+    fn push_other(&mut self, before: &Set, told: &Told<'_>) -> Done {
+        let numbers = told.numbers.as_str();
+        write!(self.text, "  {numbers}:")?;
+        push_options(self.alloc, &mut self.text, " ", "", &told.guest.options)?;
+        self.text.push_str("\n")?;
+        self.push_set_up("    ", told)?;
+        for (_, line) in losses_of(self.alloc, before, told.set)? {
+            write!(self.text, "    {line}\n")?;
+        }
+        Ok(())
+    }
+
+    /// Writes options that are advised, what they do, and what is still found with them.
+    fn push_advised(&mut self, before: &[Set], advised: &Advised<'_, Global>) -> Done {
+        let (guests, found) = (advised.guests.as_slice(), advised.findings.as_slice());
+        let (sets, counts) = (advised.sets.as_slice(), has_found(self.accepted, found));
+        let less = match (counts, has_accepted(self.accepted, found)) {
+            (true, _) => "less",
+            (false, true) => "nothing else",
+            (false, false) => "nothing",
+        };
+        write!(self.text, "with these options {less} is found:\n")?;
+        for told in told_guests(self.alloc, guests, sets, found)? {
+            if let Some(set) = before.get(told.number.saturating_sub(1)) {
+                self.push_other(set, &told)?;
+            }
+        }
+        self.push_left(guests, found)?;
+        if counts {
+            self.push_recipes(guests, sets, found)?;
+        }
+        Ok(())
+    }
+
+    /// What is said at the end: what to do about what was found, or that nothing was.
+    fn push_closing(&mut self, report: &Reported<'_>) -> Done {
+        let (sets, found) = (report.all.sets.as_slice(), report.all.findings.as_slice());
+        let are_refused = !report.all.refusals.is_empty();
+        if !has_found(self.accepted, found) {
+            let other = if has_accepted(self.accepted, found) {
+                "else "
+            } else {
+                ""
+            };
+            let end = if are_refused { " in what is told" } else { "" };
+            return write!(self.text, "nothing {other}found{end}\n");
+        }
+        match &report.advised {
+            _ if are_refused => Ok(()),
+            Some(advised) => self.push_advised(sets, advised),
+            None => self.push_recipes(report.guests, sets, found),
+        }
+    }
 }
 
 /// Writes at the end of a text which files daemons open for the guest's root, whatever is mapped.
-fn push_rights(text: &mut String, guests: &[Guest<'_, Global>]) -> Result<(), AllocError> {
+fn push_rights(text: &mut String, guests: &[Guest<'_>]) -> Done {
     if guests.iter().any(|guest| is_of_root(guest)) {
         text.push_str(
             "a daemon of root opens every file of its directory for the guest's root, whatever is mapped\n",
@@ -308,34 +178,20 @@ fn push_rights(text: &mut String, guests: &[Guest<'_, Global>]) -> Result<(), Al
 }
 
 /// What is said of the guests.
-pub(crate) fn report_as_text(
-    alloc: Global,
-    request: Request<'_>,
-    guests: &[Guest<'_, Global>],
-    report: &Reported<'_>,
-) -> Result<String, AllocError> {
-    let mut text = String::new(alloc);
-    let (likes, found) = (likes_of(alloc, guests)?, report.all.findings.as_slice());
-    push_guests(alloc, &mut text, request, guests, likes.as_slice(), report)?;
-    push_pairs(alloc, &mut text, request.accepted, likes.as_slice(), found)?;
-    push_rights(&mut text, guests)?;
-    push_closing(alloc, &mut text, request.accepted, guests, report)?;
-    Ok(text)
+pub(crate) fn as_text(alloc: Global, request: Request<'_>, report: &Reported<'_>) -> Made<String> {
+    let mut page = Page::new(alloc, request.accepted);
+    page.push_guests(request, report)?;
+    push_rights(&mut page.text, report.guests)?;
+    page.push_closing(report)?;
+    Ok(page.text)
 }
 
 /// The options of guests alone, for a script: each on a line, and a line `--` between two guests.
-pub(crate) fn options_as_text(
-    alloc: Global,
-    guests: &[Guest<'_, Global>],
-) -> Result<String, AllocError> {
+pub(crate) fn options_as_text(alloc: Global, guests: &[Guest<'_>]) -> Made<String> {
     let mut text = String::new(alloc);
-    let mut is_first = true;
-    for guest in guests {
-        if !is_first {
-            text.push_str("--\n")?;
-        }
+    for (place, guest) in guests.iter().enumerate() {
+        text.push_str(if place == 0 { "" } else { "--\n" })?;
         push_options(alloc, &mut text, "", "\n", &guest.options)?;
-        is_first = false;
     }
     Ok(text)
 }

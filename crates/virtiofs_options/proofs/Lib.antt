@@ -2,7 +2,6 @@ mod ClusterLemmas
 mod GuestLemmas
 mod GuestsLemmas
 mod LineLemmas
-mod OlderLemmas
 mod PartLemmas
 mod ResultLemmas
 mod SearchLemmas

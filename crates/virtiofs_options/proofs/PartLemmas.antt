@@ -5,7 +5,7 @@ use Rattle.std.proofs.lemmas.List.{take_rest}
 use Rattle.virtiofs_options.specs.Parts.{Begins, PartsThen, read_after}
 use Rattle.virtiofs_options.specs.declared.command.Part.{Part}
 use Rattle.virtiofs_options.specs.declared.options.Options.{Options}
-use Rattle.virtiofs_options.specs.declared.word.Word.{Word}
+use Rattle.virtiofs_options.specs.declared.command.Word.{Word}
 
 -- one part more
 pub PartsThen-more : (options : Options) (words : List Word) (parts : List Part)

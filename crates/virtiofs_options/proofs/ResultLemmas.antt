@@ -9,7 +9,7 @@ use Rattle.virtiofs_options.specs.declared.front.Asked.{Asked}
 use Rattle.virtiofs_options.specs.declared.guest.Guest.{Guest}
 use Rattle.virtiofs_options.specs.declared.options.Options.{Options}
 use Rattle.virtiofs_options.specs.declared.values.Values.{Values}
-use Rattle.virtiofs_options.specs.declared.word.Word.{Word}
+use Rattle.virtiofs_options.specs.declared.command.Word.{Word}
 use Rattle.virtiofs_options.specs.declared.words.Front.TheVariants.{Audit}
 use Rattle.virtiofs_options.specs.declared.words.Words.{Words}
 use Rattle.virtiofs_options.specs.declared.words.Words.TheVariants as words_are

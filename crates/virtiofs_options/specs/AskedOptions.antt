@@ -1,15 +1,17 @@
 -- What the parts before the first `--` ask for.
-use Rattle.std.specs.Prelude.{◌≡◌, ℕ, List, Bool, true, false, not, ◌||◌, ◌&&◌, Option, Some, None, find, bytes_eq, codes, is_some, if◌then◌else◌}
+use Rattle.std.specs.Prelude.{◌≡◌, ◌-◌, ℕ, List, Bool, true, false, not, ◌||◌, ◌&&◌, Option, Some, None, find, length, slice_get, bytes_eq, codes, is_some}
 use Rattle.std.specs.Borrow.{Bor}
 use Rattle.std.specs.List.{list_any}
 use Rattle.std.specs.Option.{option_and_then}
-use Rattle.virtiofs_options.specs.GuestOptions.{values_of, value_in, has_flag, is_flag}
+use Rattle.virtiofs_options.specs.GuestOptions.{values_of, value_in, has_flag}
+use Rattle.virtiofs_options.specs.Parts.{sets_by}
 use Rattle.virtiofs_options.specs.declared.command.Part.{Part}
 use Rattle.virtiofs_options.specs.declared.fault.Fault.{Fault}
 use Rattle.virtiofs_options.specs.declared.fault.Fault.TheVariants.{NotShown, NotAlone, Beside}
 use Rattle.virtiofs_options.specs.declared.front.Asked.{Asked}
 use Rattle.virtiofs_options.specs.declared.help.Telling.{Telling}
-use Rattle.virtiofs_options.specs.declared.help.Telling.TheVariants.{Help, Version}
+use Rattle.virtiofs_options.specs.declared.options.Sets.{Sets}
+use Rattle.virtiofs_options.specs.declared.options.Sets.TheVariants as sets
 use Rattle.virtiofs_options.specs.declared.values.Values.{Values}
 
 -- a `--show` with this value is among the parts
@@ -67,12 +69,11 @@ IsAskedWrongly parts NotAlone = (not_shown parts ≡ None) × (mixes parts ≡ t
 IsAskedWrongly parts Beside = (not_shown parts ≡ None) × (mixes parts ≡ false) × (is_beside parts ≡ true)
 IsAskedWrongly parts _ = ⊥
 
--- what the program tells of itself, where a part asks for that
-unfoldable pub tells : Part → Option Telling
-tells part =
-    if is_flag (codes "--help") part || is_flag (codes "-h") part then Some Help
-    else (if is_flag (codes "--version") part || is_flag (codes "-V") part then Some Version else None)
+-- what the program is to tell of itself, if what is set says so
+abbrev pub tells : Sets → Option Telling
+tells (sets.Tells telling) = Some telling
+tells _ = None
 
--- what the first part tells that asks for that
-abbrev pub first_told : List Part → Option Telling
-first_told parts = option_and_then tells (find (λ part. is_some (tells part)) parts)
+-- what the last part tells, if it asks for that: nothing is read after it
+abbrev pub told_last : List Part → Option Telling
+told_last parts = option_and_then (λ part. tells (sets_by part)) (slice_get parts (length parts - 1))

@@ -8,7 +8,7 @@ use Rattle.virtiofs_options.specs.declared.options.Known.{Known}
 use Rattle.virtiofs_options.specs.declared.options.Options.{Options}
 use Rattle.virtiofs_options.specs.declared.options.Takes.{Takes}
 use Rattle.virtiofs_options.specs.declared.options.Takes.TheVariants as takes
-use Rattle.virtiofs_options.specs.declared.word.Word.{Word}
+use Rattle.virtiofs_options.specs.declared.command.Word.{Word}
 
 -- what a text has after another that it begins with
 abbrev pub stripped : List ℕ → List ℕ → Option (List ℕ)

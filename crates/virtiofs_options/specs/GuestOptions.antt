@@ -1,16 +1,15 @@
 -- What the parts of a command line add to the options of a guest.
-use Rattle.std.specs.Prelude.{◌≡◌, ◌==◌, ◌+◌, length, nat_lt, is_some, ℕ, ◌++◌, List, [], Bool, true, false, ◌||◌, Option, Some, None, option_map, unwrap_or, filter_map, flat_map, find, nat_eq, bytes_eq, codes, if◌then◌else◌}
+use Rattle.std.specs.Prelude.{◌≡◌, ◌==◌, ◌+◌, length, nat_lt, is_some, ℕ, ◌++◌, List, [], Bool, true, false, ◌||◌, Option, Some, None, option_map, unwrap_or, map, filter_map, flat_map, find, nat_eq, bytes_eq, codes, if◌then◌else◌}
 use Rattle.std.specs.Borrow.{Bor}
 use Rattle.std.specs.List.{list_any, last_or, slice_split, starts_with}
-use Rattle.std.specs.Option.{option_or, option_and_then}
+use Rattle.std.specs.Option.{option_map_or}
 use Rattle.std.specs.Str.{str_eq_ignore_ascii_case}
-use Rattle.virtiofs_options.specs.Clusters.{stripped}
+use Rattle.virtiofs_options.specs.Clusters.{is_bare, stripped}
 use Rattle.virtiofs_options.specs.declared.command.Part.{Part}
-use Rattle.virtiofs_options.specs.declared.command.Part.TheVariants.{Flag, Valued}
+use Rattle.virtiofs_options.specs.declared.command.Part.TheVariants.{Plain, Flag, Valued, Stray}
 use Rattle.virtiofs_options.specs.declared.guest.Guest.{Guest}
 use Rattle.virtiofs_options.specs.declared.guest.Sandbox.{Sandbox}
 use Rattle.virtiofs_options.specs.declared.guest.Sandbox.TheVariants as sandboxes
-use Rattle.virtiofs_options.specs.declared.older.Older.{Older}
 use Rattle.virtiofs_options.specs.declared.options.Known.{Known}
 use Rattle.virtiofs_options.specs.declared.options.Options.{Options}
 use Rattle.virtiofs_options.specs.declared.options.Sets.{Sets}
@@ -38,64 +37,42 @@ is_flag option _ = false
 abbrev pub has_flag : List ℕ → List Part → Bool
 has_flag option parts = list_any (is_flag option) parts
 
+-- this is what is set
+abbrev pub is_set : Sets → Sets → Bool
+is_set sets.TranslateUid sets.TranslateUid = true
+is_set sets.TranslateGid sets.TranslateGid = true
+is_set sets.UidMap sets.UidMap = true
+is_set sets.GidMap sets.GidMap = true
+is_set sets.Xattrmap sets.Xattrmap = true
+is_set sets.AclFlag sets.AclFlag = true
+is_set sets.Sandbox sets.Sandbox = true
+is_set sets.Older sets.Older = true
+is_set _ _ = false
+
 -- the values of options that set this, in the order of the parts
-abbrev pub setting_in : (Sets → Bool) → Part → Option (Bor (List ℕ))
-setting_in sets (Valued row value) = if sets row.sets then Some value else None
-setting_in sets _ = None
+abbrev pub setting_in : Sets → Part → Option (Bor (List ℕ))
+setting_in set (Valued row value) = if is_set set row.sets then Some value else None
+setting_in set _ = None
 
-abbrev pub settings : (Sets → Bool) → List Part → List (Bor (List ℕ))
-settings sets parts = filter_map (setting_in sets) parts
+abbrev pub settings : Sets → List Part → List (Bor (List ℕ))
+settings set parts = filter_map (setting_in set) parts
 
--- an option without a value that sets this is among the parts
-abbrev pub is_setting : (Sets → Bool) → Part → Bool
-is_setting sets (Flag row) = sets row.sets
-is_setting sets _ = false
-
-abbrev pub has_setting : (Sets → Bool) → List Part → Bool
-has_setting sets parts = list_any (is_setting sets) parts
-
--- what is set
-abbrev pub is_users : Sets → Bool
-is_users sets.TranslateUid = true
-is_users _ = false
-
-abbrev pub is_groups : Sets → Bool
-is_groups sets.TranslateGid = true
-is_groups _ = false
-
-abbrev pub is_user_ranges : Sets → Bool
-is_user_ranges sets.UidMap = true
-is_user_ranges _ = false
-
-abbrev pub is_group_ranges : Sets → Bool
-is_group_ranges sets.GidMap = true
-is_group_ranges _ = false
-
-abbrev pub is_rules : Sets → Bool
-is_rules sets.Xattrmap = true
-is_rules _ = false
-
-abbrev pub is_sandbox : Sets → Bool
-is_sandbox sets.Sandbox = true
-is_sandbox _ = false
-
-abbrev pub is_source : Sets → Bool
-is_source sets.Source = true
-is_source _ = false
-
-abbrev pub is_older_form : Sets → Bool
-is_older_form sets.Older = true
-is_older_form _ = false
+-- the newer form has access control lists on
+abbrev pub is_acl_flag : Part → Bool
+is_acl_flag (Flag row) = is_set sets.AclFlag row.sets
+is_acl_flag _ = false
 
 -- whether this is on or off, if what is set says so
 abbrev pub turns : Switch → Sets → Option Bool
+turns Acl sets.AclFlag = Some true
 turns Acl (sets.Turns Acl on) = Some on
 turns Xattr (sets.Turns Xattr on) = Some on
 turns Label (sets.Turns Label on) = Some on
 turns switch _ = None
 
-abbrev pub is_on : Switch → Sets → Bool
-is_on switch set = unwrap_or (turns switch set) false
+abbrev pub turned : Switch → Part → Option Bool
+turned switch (Flag row) = turns switch row.sets
+turned switch _ = None
 
 -- a guest whose daemon has none of the options
 pub record HasNoOption {A : Type 0} (guest : Guest A) : Type 0 where
@@ -121,25 +98,25 @@ has_any guest =
     || nat_lt 0 (length guest.translate_uid.items + length guest.uid_map.items)
     || nat_lt 0 (length guest.translate_gid.items + length guest.gid_map.items)
 
--- what the parts add by options of the newer form: values in their order, and of the rules and the sandbox the last
+-- what parts add: values in their order, and of what a daemon has once the last
 pub record Adds {A : Type 0} (old new : Guest A) (parts : List Part) : Type 0 where
-  pub users : new.translate_uid.items ≡ old.translate_uid.items ++ settings is_users parts
-  pub groups : new.translate_gid.items ≡ old.translate_gid.items ++ settings is_groups parts
-  pub user_ranges : new.uid_map.items ≡ old.uid_map.items ++ settings is_user_ranges parts
-  pub group_ranges : new.gid_map.items ≡ old.gid_map.items ++ settings is_group_ranges parts
-  pub rules : new.xattrmap ≡ last_or old.xattrmap (settings is_rules parts)
-  pub lists : new.posix_acl ≡ (old.posix_acl || has_setting (is_on Acl) parts)
-  pub flag : new.acl_flag ≡ (old.acl_flag || has_setting (is_on Acl) parts)
-  pub xattr : new.xattr ≡ (old.xattr || has_setting (is_on Xattr) parts)
-  pub label : new.security_label ≡ (old.security_label || has_setting (is_on Label) parts)
-  pub sandbox : new.sandbox ≡ last_or old.sandbox (settings is_sandbox parts)
+  pub users : new.translate_uid.items ≡ old.translate_uid.items ++ settings sets.TranslateUid parts
+  pub groups : new.translate_gid.items ≡ old.translate_gid.items ++ settings sets.TranslateGid parts
+  pub user_ranges : new.uid_map.items ≡ old.uid_map.items ++ settings sets.UidMap parts
+  pub group_ranges : new.gid_map.items ≡ old.gid_map.items ++ settings sets.GidMap parts
+  pub rules : new.xattrmap ≡ last_or old.xattrmap (settings sets.Xattrmap parts)
+  pub lists : Some new.posix_acl ≡ last_or (Some old.posix_acl) (filter_map (turned Acl) parts)
+  pub flag : new.acl_flag ≡ (old.acl_flag || list_any is_acl_flag parts)
+  pub xattr : Some new.xattr ≡ last_or (Some old.xattr) (filter_map (turned Xattr) parts)
+  pub label : Some new.security_label ≡ last_or (Some old.security_label) (filter_map (turned Label) parts)
+  pub sandbox : new.sandbox ≡ last_or old.sandbox (settings sets.Sandbox parts)
 
 -- the older options in the values of `-o`, with a comma between two, in the order of the words
 abbrev pub split_at_commas : List ℕ → List (List ℕ)
 split_at_commas text = slice_split (λ byte. byte == 44) text
 
 abbrev pub older_options : List Part → List (List ℕ)
-older_options parts = flat_map (λ value. split_at_commas value.now) (settings is_older_form parts)
+older_options parts = flat_map (λ value. split_at_commas value.now) (settings sets.Older parts)
 
 -- the text is this part of `-o`: a name alone, or what begins one that has a value, and the value
 abbrev pub is_older_with : Takes → List ℕ → List ℕ → Bool
@@ -149,52 +126,38 @@ is_older_with _ text name = starts_with nat_eq text name
 abbrev pub older_of : Options → List ℕ → Option Known
 older_of options text = find (λ it. is_older_with it.takes text it.name.now) options.older.now
 
--- the value in an older option that sets this
-abbrev pub older_value : (Sets → Bool) → List ℕ → Known → Option (List ℕ)
-older_value sets text row = if sets row.sets then stripped row.name.now text else None
+-- a part as plain data: the option that it is, if it is known, and its value; or the word
+abbrev pub plain_part : Part → Option Known × Option (List ℕ)
+plain_part (Flag row) = (Some row, None)
+plain_part (Valued row value) = (Some row, Some value.now)
+plain_part (Plain word) = (None, Some word.now)
+plain_part (Stray word) = (None, Some word.now)
 
-abbrev pub older_setting : (Sets → Bool) → Options → List ℕ → Option (List ℕ)
-older_setting sets options text = option_and_then (older_value sets text) (older_of options text)
+-- what a part of `-o` has after its name
+abbrev pub after : List ℕ → List ℕ → List ℕ
+after name text = unwrap_or (stripped name text) []
 
--- whether an older option has this on or off
-abbrev pub flag_in : Switch → Options → List ℕ → Option Bool
-flag_in switch options text = option_and_then (λ row. turns switch row.sets) (older_of options text)
+-- a part of `-o`, as the part of a command line that it is like
+abbrev pub older_part : Options → List ℕ → Option Known × Option (List ℕ)
+older_part options text =
+    option_map_or (λ row. (Some row, if is_bare row.takes then None else Some (after row.name.now text)))
+    (older_of options text) (None, Some text)
+
+-- the parts of all `-o`, in their order
+abbrev pub AreOlder : Options → List Part → List Part → Type 0
+AreOlder options parts older = map plain_part older ≡ map (older_part options) (older_options parts)
+
+-- what the parts of a command line make of a guest: older options count more than the others, wherever they stand
+pub record TakesIn {A : Type 0} (options : Options) (old new : Guest A) (parts : List Part) : Type 0 where
+  pub older : List Part
+  pub newer : Guest A
+  pub are_older : AreOlder options parts older
+  pub of_newer : Adds old newer parts
+  pub of_older : Adds newer new older
 
 -- a text, if there is one
 abbrev pub text_in : Option (Bor (List ℕ)) → Option (List ℕ)
 text_in text = option_map (λ it. it.now) text
-
--- what older options add to those before: of each kind the last counts
-pub record AddsOlder (options : Options) (old new : Older) (texts : List (List ℕ)) : Type 0 where
-  pub rules : text_in new.xattrmap ≡ last_or (text_in old.xattrmap) (filter_map (older_setting is_rules options) texts)
-  pub lists : new.posix_acl ≡ last_or old.posix_acl (filter_map (flag_in Acl options) texts)
-  pub xattr : new.xattr ≡ last_or old.xattr (filter_map (flag_in Xattr options) texts)
-  pub label : new.security_label ≡ last_or old.security_label (filter_map (flag_in Label options) texts)
-  pub sandbox : text_in new.sandbox ≡ last_or (text_in old.sandbox) (filter_map (older_setting is_sandbox options) texts)
-  pub source : text_in new.source ≡ last_or (text_in old.source) (filter_map (older_setting is_source options) texts)
-
--- what the parts of a command line make of a guest: older options count more than the others, wherever they stand
-pub record TakesIn {A : Type 0} (options : Options) (old new : Guest A) (parts : List Part) : Type 0 where
-  pub users : new.translate_uid.items ≡ old.translate_uid.items ++ settings is_users parts
-  pub groups : new.translate_gid.items ≡ old.translate_gid.items ++ settings is_groups parts
-  pub user_ranges : new.uid_map.items ≡ old.uid_map.items ++ settings is_user_ranges parts
-  pub group_ranges : new.gid_map.items ≡ old.gid_map.items ++ settings is_group_ranges parts
-  pub rules : text_in new.xattrmap
-      ≡ option_or (last_or None (filter_map (older_setting is_rules options) (older_options parts)))
-      (text_in (last_or old.xattrmap (settings is_rules parts)))
-  pub lists : new.posix_acl
-      ≡ unwrap_or (last_or None (filter_map (flag_in Acl options) (older_options parts)))
-      (old.posix_acl || has_setting (is_on Acl) parts)
-  pub flag : new.acl_flag ≡ (old.acl_flag || has_setting (is_on Acl) parts)
-  pub xattr : new.xattr
-      ≡ unwrap_or (last_or None (filter_map (flag_in Xattr options) (older_options parts)))
-      (old.xattr || has_setting (is_on Xattr) parts)
-  pub label : new.security_label
-      ≡ unwrap_or (last_or None (filter_map (flag_in Label options) (older_options parts)))
-      (old.security_label || has_setting (is_on Label) parts)
-  pub sandbox : text_in new.sandbox
-      ≡ option_or (last_or None (filter_map (older_setting is_sandbox options) (older_options parts)))
-      (text_in (last_or old.sandbox (settings is_sandbox parts)))
 
 -- how the daemon is kept apart, by the last text that says so
 abbrev pub sandbox_by : List ℕ → Sandbox

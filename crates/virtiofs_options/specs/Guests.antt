@@ -18,8 +18,7 @@ use Rattle.virtiofs_options.specs.declared.guests.Guests.{Guests}
 use Rattle.virtiofs_options.specs.declared.guests.Process.{Process}
 use Rattle.virtiofs_options.specs.declared.guests.Process.TheVariants.{OfGuest, NoDaemon}
 use Rattle.virtiofs_options.specs.declared.options.Options.{Options}
-use Rattle.virtiofs_options.specs.declared.starter.Starter.{Starter}
-use Rattle.virtiofs_options.specs.declared.word.Word.{Word}
+use Rattle.virtiofs_options.specs.declared.command.Word.{Word}
 
 -- what is not known of a command line: the number of the guest, whether it is a part of `-o`, and the text
 abbrev pub Told : Type 0
@@ -45,14 +44,6 @@ abbrev pub IsLine : {A : Type 0} → Options → ℕ → Guest A → List (Bor (
 IsLine options number first line guest told =
     (parts : List Part) × AreSplitParts options line parts × AreRight options parts
     × TakesIn options first guest parts × (told ≡ unknown_of options number parts)
-
--- one guest more, whose command line is these words, and what of them is not known
-abbrev pub AddsLine : Options → Starter → Guest Global → List (Bor (List ℕ)) → Guests → Guests → Type 0
-AddsLine options starter first line old new =
-    (guest : Guest Global) × (here : Told)
-    × IsLine options (length old.guests.items + 1) first line guest here × (guest.starter ≡ starter)
-    × (new.guests.items ≡ old.guests.items ++ guest ∷ [])
-    × (map told new.unknown.items ≡ map told old.unknown.items ++ here)
 
 -- what is wrong with the words of one command line: a word, or a part
 abbrev pub IsLineFault : Options → List (Bor (List ℕ)) → Fault → Type 0

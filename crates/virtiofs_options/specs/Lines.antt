@@ -2,7 +2,7 @@
 use Rattle.std.specs.Prelude.{ℕ, ◌+◌, List, [], ◌∷◌, Bool, true, false, not, ◌||◌, ◌&&◌, Option, Some, None, option_map, position, take, drop, nat_eq, bytes_eq, codes, if◌then◌else◌}
 use Rattle.std.specs.Borrow.{Bor}
 use Rattle.std.specs.List.{list_any, starts_with, ends_with}
-use Rattle.std.specs.Option.{option_and_then, option_or}
+use Rattle.std.specs.Option.{option_and_then, option_map_or, option_or}
 use Rattle.virtiofs_options.specs.Parts.{is_option, key_of}
 use Rattle.virtiofs_options.specs.declared.options.Options.{Options}
 use Rattle.virtiofs_options.specs.declared.options.Sets.{Sets}
@@ -13,14 +13,9 @@ use Rattle.virtiofs_options.specs.declared.options.Switch.TheVariants.{Acl}
 abbrev pub first_end : List (Bor (List ℕ)) → Option ℕ
 first_end words = position (λ word. bytes_eq word.now (codes "--")) words
 
--- the words before a place, or all of them
-abbrev pub line_to : List (Bor (List ℕ)) → Option ℕ → List (Bor (List ℕ))
-line_to words None = words
-line_to words (Some end) = take end words
-
--- the words before the first `--`
+-- the words before the first `--`, or all of them
 abbrev pub line_of : List (Bor (List ℕ)) → List (Bor (List ℕ))
-line_of words = line_to words (first_end words)
+line_of words = option_map_or (λ end. take end words) (first_end words) words
 
 -- the words after the first `--`, if there is one
 abbrev pub after_line : List (Bor (List ℕ)) → Option (List (Bor (List ℕ)))
@@ -39,6 +34,7 @@ concerns sets.TranslateGid = true
 concerns sets.UidMap = true
 concerns sets.GidMap = true
 concerns sets.Xattrmap = true
+concerns sets.AclFlag = true
 concerns (sets.Turns Acl on) = true
 concerns _ = false
 
@@ -52,13 +48,9 @@ abbrev pub opens_with_option : List (Bor (List ℕ)) → Bool
 opens_with_option [] = false
 opens_with_option (word ∷ rest) = is_option word.now
 
--- one of the words is an option for ids or names
-abbrev pub has_counted : Options → List (Bor (List ℕ)) → Bool
-has_counted options words = list_any (λ word. is_counted options word.now) words
-
 -- the first of the words is an option, or one of them is an option for ids or names
 abbrev pub has_options : Options → List (Bor (List ℕ)) → Bool
-has_options options words = opens_with_option words || has_counted options words
+has_options options words = opens_with_option words || list_any (λ word. is_counted options word.now) words
 
 -- where the first daemon's word stands
 abbrev pub first_daemon : List (Bor (List ℕ)) → Option ℕ

@@ -13,7 +13,7 @@ use Rattle.virtiofs_options.specs.declared.options.Options.{Options}
 use Rattle.virtiofs_options.specs.declared.options.Sets.{Sets}
 use Rattle.virtiofs_options.specs.declared.options.Sets.TheVariants as sets
 use Rattle.virtiofs_options.specs.declared.options.Takes.TheVariants as takes
-use Rattle.virtiofs_options.specs.declared.word.Word.{Word}
+use Rattle.virtiofs_options.specs.declared.command.Word.{Word}
 
 -- a word that looks like an option: it begins with `-`, and is not `-` alone
 abbrev pub is_option : List ℕ → Bool
@@ -102,7 +102,7 @@ sets_by _ = sets.Other
 
 -- an option after which nothing is read
 abbrev pub is_last : Sets → Bool
-is_last sets.Tells = true
+is_last (sets.Tells telling) = true
 is_last _ = false
 
 -- what is read of the words after a part

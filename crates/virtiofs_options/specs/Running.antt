@@ -1,45 +1,39 @@
 -- What the command line of a process that runs says.
-use Rattle.std.specs.Prelude.{◌≡◌, ◌==◌, ◌-◌, ℕ, List, Option, None, Some, filter_map, map, position, take, slice_get, length, codes}
+use Rattle.std.specs.Prelude.{◌≡◌, ◌==◌, ◌-◌, ℕ, List, Option, map, position, take, slice_get, length, codes}
 use Rattle.std.specs.Borrow.{Bor}
-use Rattle.std.specs.List.{last_or}
-use Rattle.std.specs.Option.{option_or}
+use Rattle.std.specs.Option.{option_map_or, option_or}
 use Rattle.virtiofs_options.specs.Clusters.{plain, split_words}
-use Rattle.virtiofs_options.specs.GuestOptions.{is_source, older_options, older_setting, text_in, values_of}
+use Rattle.virtiofs_options.specs.GuestOptions.{AreOlder, values_of}
 use Rattle.virtiofs_options.specs.Guests.{AreSplitParts}
 use Rattle.virtiofs_options.specs.Lines.{line_of}
 use Rattle.virtiofs_options.specs.Parts.{HasFault}
 use Rattle.virtiofs_options.specs.declared.command.Part.{Part}
 use Rattle.virtiofs_options.specs.declared.fault.Fault.{Fault}
 use Rattle.virtiofs_options.specs.declared.options.Options.{Options}
-use Rattle.virtiofs_options.specs.declared.word.Word.{Word}
+use Rattle.virtiofs_options.specs.declared.command.Word.{Word}
 
 -- where the first zero byte stands
 abbrev pub first_zero : List ℕ → Option ℕ
 first_zero text = position (λ byte. byte == 0) text
 
--- the bytes before a place, or all of them
-abbrev pub word_to : List ℕ → Option ℕ → List ℕ
-word_to text None = text
-word_to text (Some end) = take end text
-
 -- the first word of a command line, which a zero byte ends
 abbrev pub first_word : List ℕ → List ℕ
-first_word text = word_to text (first_zero text)
+first_word text = option_map_or (λ end. take end text) (first_zero text) text
 
 -- the last of some values
 abbrev pub last_of : List (Bor (List ℕ)) → Option (Bor (List ℕ))
 last_of values = slice_get values (length values - 1)
 
 -- the directory that is shared, if the parts say one: the older form counts more, and of each form the last
-abbrev pub directory_in : Options → List Part → Option (List ℕ)
-directory_in options parts =
-    option_or (last_or None (filter_map (older_setting is_source options) (older_options parts)))
-    (text_in (last_of (values_of (codes "--shared-dir") parts)))
+abbrev pub IsDirectoryIn : Options → List Part → Option (Bor (List ℕ)) → Type 0
+IsDirectoryIn options parts directory =
+    (older : List Part) × AreOlder options parts older
+    × (directory ≡ option_or (last_of (values_of (codes "source=") older)) (last_of (values_of (codes "--shared-dir") parts)))
 
 -- the words say this directory, or none
-abbrev pub Shares : Options → List (Bor (List ℕ)) → Option (List ℕ) → Type 0
+abbrev pub Shares : Options → List (Bor (List ℕ)) → Option (Bor (List ℕ)) → Type 0
 Shares options words directory =
-    (parts : List Part) × AreSplitParts options (line_of words) parts × (directory ≡ directory_in options parts)
+    (parts : List Part) × AreSplitParts options (line_of words) parts × IsDirectoryIn options parts directory
 
 -- what is wrong with a word
 abbrev pub IsWordFault : Options → List (Bor (List ℕ)) → Fault → Type 0

@@ -1,8 +1,8 @@
 -- Who starts the daemon, by the words before the daemon's.
-use Rattle.std.specs.Prelude.{◌≡◌, ℕ, List, [], ◌∷◌, Bool, true, false, not, ◌&&◌, ◌==◌, MatchOption, Option, Some, None, is_some, option_map, unwrap_or, length, drop, find, position, nat_eq, bytes_eq, codes, if◌then◌else◌}
+use Rattle.std.specs.Prelude.{◌≡◌, ℕ, List, [], ◌∷◌, Bool, not, ◌&&◌, ◌==◌, Option, Some, None, is_some, option_map, unwrap_or, length, drop, find, position, nat_eq, bytes_eq, codes, if◌then◌else◌}
 use Rattle.std.specs.Borrow.{Bor}
 use Rattle.std.specs.List.{list_any, starts_with, ends_with}
-use Rattle.std.specs.Option.{option_and_then}
+use Rattle.std.specs.Option.{option_and_then, option_map_or}
 use Rattle.virtiofs_options.specs.Clusters.{stripped}
 use Rattle.virtiofs_options.specs.GuestOptions.{text_in}
 use Rattle.virtiofs_options.specs.declared.options.Options.{Options}
@@ -24,11 +24,9 @@ abbrev pub mark_of : Start → List (Bor (List ℕ)) → Option ℕ
 mark_of row words = position (λ word. is_mark row word.now) words
 
 -- the words have the program of the row, and its option
-abbrev pub has_program : List ℕ → List (Bor (List ℕ)) → Bool
-has_program program words = list_any (λ word. ends_with nat_eq word.now program) words
-
 abbrev pub speaks : Start → List (Bor (List ℕ)) → Bool
-speaks row words = has_program row.program.now words && is_some (mark_of row words)
+speaks row words =
+    list_any (λ word. ends_with nat_eq word.now row.program.now) words && is_some (mark_of row words)
 
 -- the first row that speaks of the words
 abbrev pub row_of : Options → List (Bor (List ℕ)) → Option Start
@@ -70,34 +68,27 @@ user_by row words = option_and_then (λ place. user_behind row.option.now (drop 
 abbrev pub names_root : Options → List ℕ → Bool
 names_root options text = list_any (λ root. bytes_eq root.now text) options.roots.now
 
--- the user is root; who needs no option for another user is so where nobody is named
-abbrev pub is_root : Options → Start → Option (List ℕ) → Bool
-is_root options row None = length row.option.now == 0
-is_root options row (Some user) = names_root options user
+-- the user is root, or another one; who needs no option for another user is root where nobody is named
+abbrev pub by_user : Options → Start → Option (List ℕ) → By
+by_user options row None = if length row.option.now == 0 then Root else Another
+by_user options row (Some user) = if names_root options user then Root else Another
 
--- who starts a daemon by what a row says, where root is named, or another user is
-abbrev pub by_of : Says → Bool → By
-by_of says.Namespace root = InNamespace
-by_of says.User root = if root then Root else Another
-by_of says.Root root = Root
-by_of says.Another root = if root then Root else Another
-by_of says.Group root = Another
+-- who starts the daemon, and the user, by what a row says of whom the words name
+abbrev pub said : Says → By → Option (List ℕ) → By × Option (List ℕ)
+said says.Namespace by user = (InNamespace, None)
+said says.Group by user = (Another, None)
+said says.Root by user = (Root, Some (codes "root"))
+said says.Another by user = (by, None)
+said says.User by user = (by, user)
 
--- the user, if the words tell the name or the number
-abbrev pub named_by : Says → Option (List ℕ) → Option (List ℕ)
-named_by says.Namespace user = None
-named_by says.User user = user
-named_by says.Root user = Some (codes "root")
-named_by says.Another user = None
-named_by says.Group user = None
+abbrev pub starter_by : Options → Start → Option (List ℕ) → By × Option (List ℕ)
+starter_by options row user = said row.says (by_user options row user) user
 
--- the starter is who the row says it is, by the user whom the words name
-pub record IsBy (options : Options) (words : List (Bor (List ℕ))) (row : Start) (starter : Starter) : Type 0 where
-  pub who : starter.by ≡ by_of row.says (is_root options row (user_by row words))
-  pub named : text_in starter.user ≡ named_by row.says (user_by row words)
+abbrev pub plain_starter : Starter → By × Option (List ℕ)
+plain_starter starter = (starter.by, text_in starter.user)
 
 -- the first row that speaks of the words says who starts the daemon; where none does, root
 abbrev pub IsStarter : Options → List (Bor (List ℕ)) → Starter → Type 0
 IsStarter options words starter =
-    MatchOption (row_of options words) (starter ≡ record { by = Root; user = None })
-    (λ row. IsBy options words row starter)
+    plain_starter starter
+    ≡ option_map_or (λ row. starter_by options row (user_by row words)) (row_of options words) (Root, None)

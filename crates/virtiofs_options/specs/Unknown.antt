@@ -2,11 +2,10 @@
 use Rattle.std.specs.Prelude.{◌≡◌, ◌⊎◌, ℕ, List, [], ◌∷◌, Bool, true, false, not, ◌||◌, ◌&&◌, Option, Some, None, MatchOption, map, flat_map, find, is_some, length, take, nat_le, nat_eq, bytes_eq, chars, encode_utf8_all, if◌then◌else◌}
 use Rattle.std.specs.Borrow.{Bor}
 use Rattle.std.specs.List.{list_any, filter}
-use Rattle.std.specs.Option.{option_or}
+use Rattle.std.specs.Option.{option_map_or, option_or}
 use Rattle.strsim.specs.Edits.{levenshtein_row}
 use Rattle.virtiofs_options.specs.Allowed.{allows}
-use Rattle.virtiofs_options.specs.Clusters.{stripped}
-use Rattle.virtiofs_options.specs.GuestOptions.{split_at_commas, is_older_form, older_of}
+use Rattle.virtiofs_options.specs.GuestOptions.{after, is_set, split_at_commas, older_of}
 use Rattle.virtiofs_options.specs.Lines.{concerns, is_daemon}
 use Rattle.virtiofs_options.specs.Parts.{key_of, sets_by}
 use Rattle.virtiofs_options.specs.Whole.{is_line, follows}
@@ -38,68 +37,47 @@ misses text row = concerns row.sets && is_near text (key_of row.name.now)
 abbrev pub is_near_one : List ℕ → List Known → Bool
 is_near_one text known = list_any (misses text) known
 
--- an option that is not known is a near miss of one for ids or names
-abbrev pub is_near_option : Options → List ℕ → Bool
-is_near_option options word = is_near_one (key_of word) options.known.now
-
-abbrev pub is_known_older : Options → List ℕ → Bool
-is_known_older options text = is_some (older_of options text)
-
 -- the name is that of an option of the program's own
-abbrev pub is_own_name : Options → List ℕ → Bool
-is_own_name options name = list_any (λ it. bytes_eq it.name.now name) options.own.now
-
--- an option that is not known is the program's own
 abbrev pub is_own : Options → List ℕ → Bool
-is_own options word = is_own_name options (key_of word)
+is_own options name = list_any (λ it. bytes_eq it.name.now name) options.own.now
 
--- an option that is not known is one that may not stand here
-abbrev pub is_wrong : Options → List ℕ → Bool
-is_wrong options word = is_own options word || is_near_option options word
-
--- a part of `-o` that is not known, and a near miss of one for names
-abbrev pub is_astray : Options → List ℕ → Bool
-is_astray options text = not (is_known_older options text) && is_near_one (key_of text) options.older.now
-
--- a value that the daemon refuses, of what follows a name
-abbrev pub is_refused_value : Known → Option (List ℕ) → Bool
-is_refused_value row None = false
-is_refused_value row (Some value) = not (allows row.values value)
-
-abbrev pub is_refused_after : Option Known → List ℕ → Bool
-is_refused_after None text = false
-is_refused_after (Some row) text = is_refused_value row (stripped row.name.now text)
-
--- a part of `-o` whose value the daemon refuses
-abbrev pub is_refused : Options → List ℕ → Bool
-is_refused options text = is_refused_after (older_of options text) text
-
--- a part of `-o` that is wrong
+-- a part of `-o` is wrong: it is not known, and a near miss of one for names, or the daemon refuses its value
 abbrev pub is_bad : Options → List ℕ → Bool
-is_bad options text = is_astray options text || is_refused options text
+is_bad options text =
+    option_map_or (λ row. not (allows row.values (after row.name.now text))) (older_of options text)
+    (is_near_one (key_of text) options.older.now)
 
 -- a part of a command line is wrong
 abbrev pub is_faulty : Options → Part → Bool
 is_faulty options (Plain word) = is_line options word.now
 is_faulty options (Flag row) = false
-is_faulty options (Stray word) = is_line options word.now || is_wrong options word.now
+is_faulty options (Stray word) =
+    is_line options word.now || is_own options (key_of word.now) || is_near_one (key_of word.now) options.known.now
 is_faulty options (Valued row value) =
     follows options value.now || not (allows row.values value.now)
-    || (is_older_form row.sets && list_any (is_bad options) (split_at_commas value.now))
+    || (is_set sets.Older row.sets && list_any (is_bad options) (split_at_commas value.now))
 
--- what is wrong with the first part of a `-o` that is wrong
-abbrev pub IsTextFault : Options → List ℕ → Fault → Type 0
-IsTextFault options value (OlderUnknown text) =
-    (find (is_bad options) (split_at_commas value) ≡ Some text.now) × (is_astray options text.now ≡ true)
-IsTextFault options value (OlderRefused text) =
-    (find (is_bad options) (split_at_commas value) ≡ Some text.now) × (is_astray options text.now ≡ false)
-IsTextFault options value _ = ⊥
+-- the first of parts of `-o` that is wrong
+abbrev pub first_bad : Options → List (List ℕ) → Option (List ℕ)
+first_bad options texts = find (is_bad options) texts
+
+-- what is wrong with it
+abbrev pub IsTextFault : Options → Option (List ℕ) → Fault → Type 0
+IsTextFault options first (OlderUnknown text) =
+    (first ≡ Some text.now) × (is_some (older_of options text.now) ≡ false)
+IsTextFault options first (OlderRefused text) =
+    (first ≡ Some text.now) × (is_some (older_of options text.now) ≡ true)
+IsTextFault options first _ = ⊥
+
+abbrev pub HasTextFault : Options → Option (List ℕ) → Option Fault → Type 0
+HasTextFault options first fault = MatchOption fault (first ≡ None) (IsTextFault options first)
 
 -- an option that has its value, and parts of `-o` in it
 abbrev pub IsOlderFault : Options → Part → Fault → Type 0
 IsOlderFault options part fault =
     (row : Known) × (value : Bor (List ℕ)) × (part ≡ Valued row value) × (follows options value.now ≡ false)
-    × (allows row.values value.now ≡ true) × (is_older_form row.sets ≡ true) × IsTextFault options value.now fault
+    × (allows row.values value.now ≡ true) × (is_set sets.Older row.sets ≡ true)
+    × IsTextFault options (first_bad options (split_at_commas value.now)) fault
 
 -- what is wrong with a part
 abbrev pub IsPartFault : Options → Part → Fault → Type 0
@@ -109,10 +87,11 @@ IsPartFault options part (Whole text) =
     ⊎ ((row : Known) × (part ≡ Valued row text) × (follows options text.now ≡ true))
 IsPartFault options part (Miss name) =
     (word : Bor (List ℕ)) × (part ≡ Stray word) × (is_line options word.now ≡ false)
-    × (is_own options word.now ≡ false) × (is_near_option options word.now ≡ true) × (name.now ≡ key_of word.now)
+    × (is_own options (key_of word.now) ≡ false) × (is_near_one (key_of word.now) options.known.now ≡ true)
+    × (name.now ≡ key_of word.now)
 IsPartFault options part (AfterDashes name) =
     (word : Bor (List ℕ)) × (part ≡ Stray word) × (is_line options word.now ≡ false)
-    × (is_own options word.now ≡ true) × (name.now ≡ key_of word.now)
+    × (is_own options (key_of word.now) ≡ true) × (name.now ≡ key_of word.now)
 IsPartFault options part (Refused name value) =
     (row : Known) × (part ≡ Valued row value) × (follows options value.now ≡ false) × (name ≡ row.name)
     × (allows row.values value.now ≡ false)
@@ -149,31 +128,19 @@ abbrev pub stray_in : Place → List Part → Option (Bor (List ℕ))
 stray_in at [] = None
 stray_in at (part ∷ parts) = option_or (stray_at at part) (stray_in (next_place at part) parts)
 
--- an option that sets this is among the parts
-abbrev pub has_any_of : (Sets → Bool) → List Part → Bool
-has_any_of sets parts = list_any (λ part. sets (sets_by part)) parts
+-- two options of the socket do not go together
+abbrev pub clash : Sets → Sets → Bool
+clash sets.Fd sets.Socket = true
+clash sets.Fd sets.Group = true
+clash sets.Group sets.Prints = true
+clash _ _ = false
 
-abbrev pub is_fd : Sets → Bool
-is_fd sets.Fd = true
-is_fd _ = false
+abbrev pub clashes : Part → List Part → Bool
+clashes part parts = list_any (λ other. clash (sets_by part) (sets_by other)) parts
 
-abbrev pub is_socket : Sets → Bool
-is_socket sets.Socket = true
-is_socket _ = false
-
-abbrev pub is_group : Sets → Bool
-is_group sets.Group = true
-is_group _ = false
-
-abbrev pub is_prints : Sets → Bool
-is_prints sets.Prints = true
-is_prints _ = false
-
--- options of the socket that do not go together
+-- there are two such options
 abbrev pub are_at_odds : List Part → Bool
-are_at_odds parts =
-    (has_any_of is_fd parts && (has_any_of is_socket parts || has_any_of is_group parts))
-    || (has_any_of is_group parts && has_any_of is_prints parts)
+are_at_odds parts = list_any (λ part. clashes part parts) parts
 
 -- parts of which none is wrong
 abbrev pub AreRight : Options → List Part → Type 0
@@ -196,13 +163,13 @@ told it = (it.guest, it.is_older, it.word.now)
 -- those parts of a `-o` that are not known
 abbrev pub unknown_words : Options → ℕ → List (List ℕ) → List (ℕ × Bool × List ℕ)
 unknown_words options guest texts =
-    map (λ text. (guest, true, text)) (filter (λ text. not (is_known_older options text)) texts)
+    map (λ text. (guest, true, text)) (filter (λ text. not (is_some (older_of options text))) texts)
 
 -- what of a part is not known: an option without its value, or parts of `-o`
 abbrev pub unknown_in : Options → ℕ → Part → List (ℕ × Bool × List ℕ)
 unknown_in options guest (Stray word) = (guest, false, key_of word.now) ∷ []
 unknown_in options guest (Valued row value) =
-    if is_older_form row.sets then unknown_words options guest (split_at_commas value.now) else []
+    if is_set sets.Older row.sets then unknown_words options guest (split_at_commas value.now) else []
 unknown_in options guest _ = []
 
 -- what is not known in the parts of the command line of a guest, in their order

@@ -1,6 +1,7 @@
 -- Texts that hold more than one word of a command line.
-use Rattle.std.specs.Prelude.{ℕ, ◌+◌, ◌==◌, List, Bool, false, ◌||◌, Option, Some, None, position, take, drop, bytes_eq}
+use Rattle.std.specs.Prelude.{ℕ, ◌+◌, ◌==◌, List, Bool, false, ◌||◌, position, take, drop, bytes_eq}
 use Rattle.std.specs.List.{list_any, slice_split}
+use Rattle.std.specs.Option.{option_map_or}
 use Rattle.virtiofs_options.specs.Lines.{is_daemon}
 use Rattle.virtiofs_options.specs.Parts.{key_of}
 use Rattle.virtiofs_options.specs.declared.options.Options.{Options}
@@ -25,21 +26,13 @@ begins_line options text = is_daemon text || is_name options text
 abbrev pub holds_option : Options → List ℕ → Bool
 holds_option options text = list_any (is_known options) (slice_split is_blank text)
 
--- the text before the blank at a place begins a command line, or an option follows
-abbrev pub is_line_at : Options → List ℕ → Option ℕ → Bool
-is_line_at options text None = false
-is_line_at options text (Some place) =
-    begins_line options (take place text) || holds_option options (drop (place + 1) text)
-
--- a word that holds a command line
+-- a word that holds a command line: what stands before its first blank begins one, or an option follows
 abbrev pub is_line : Options → List ℕ → Bool
-is_line options word = is_line_at options word (position is_blank word)
-
--- an option follows the blank at a place
-abbrev pub follows_at : Options → List ℕ → Option ℕ → Bool
-follows_at options text None = false
-follows_at options text (Some place) = holds_option options (drop (place + 1) text)
+is_line options word =
+    option_map_or (λ place. begins_line options (take place word) || holds_option options (drop (place + 1) word))
+    (position is_blank word) false
 
 -- a value in which an option follows a blank
 abbrev pub follows : Options → List ℕ → Bool
-follows options value = follows_at options value (position is_blank value)
+follows options value =
+    option_map_or (λ place. holds_option options (drop (place + 1) value)) (position is_blank value) false

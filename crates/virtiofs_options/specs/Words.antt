@@ -1,12 +1,12 @@
 -- What the program's words come to.
-use Rattle.std.specs.Prelude.{◌≡◌, ◌⊎◌, ◌==◌, ◌||◌, ◌&&◌, ◌+◌, ℕ, List, [], Bool, true, false, not, Option, None, Some, is_some, map, drop, length, nat_lt, if◌then◌else◌}
+use Rattle.std.specs.Prelude.{◌≡◌, ◌⊎◌, ◌==◌, ◌||◌, ◌&&◌, ℕ, List, [], Bool, true, false, not, None, Some, is_some, map, unwrap_or, length, nat_lt, if◌then◌else◌}
 use Rattle.std.specs.Borrow.{Bor}
 use Rattle.std.specs.Global.{Global}
-use Rattle.virtiofs_options.specs.AskedOptions.{AreValues, IsAsked, IsAskedWrongly, first_told, not_shown, mixes, is_beside}
+use Rattle.virtiofs_options.specs.AskedOptions.{AreValues, IsAsked, IsAskedWrongly, told_last, not_shown, mixes, is_beside}
 use Rattle.virtiofs_options.specs.Clusters.{plain, split_words}
 use Rattle.virtiofs_options.specs.GuestOptions.{HasNoOption, TakesIn, has_any}
 use Rattle.virtiofs_options.specs.Guests.{AreGuests, HasGuestFault, Told}
-use Rattle.virtiofs_options.specs.Lines.{first_daemon, first_end, line_of}
+use Rattle.virtiofs_options.specs.Lines.{after_line, first_daemon, line_of}
 use Rattle.virtiofs_options.specs.Parts.{AreParts, HasFault, is_option, known_of}
 use Rattle.virtiofs_options.specs.Unknown.{told}
 use Rattle.virtiofs_options.specs.Whole.{is_line}
@@ -17,7 +17,7 @@ use Rattle.virtiofs_options.specs.declared.guest.Guest.{Guest}
 use Rattle.virtiofs_options.specs.declared.options.Options.{Options}
 use Rattle.virtiofs_options.specs.declared.front.Asked.{Asked}
 use Rattle.virtiofs_options.specs.declared.values.Values.{Values}
-use Rattle.virtiofs_options.specs.declared.word.Word.{Word}
+use Rattle.virtiofs_options.specs.declared.command.Word.{Word}
 use Rattle.virtiofs_options.specs.declared.words.Front.{Front}
 use Rattle.virtiofs_options.specs.declared.words.Front.TheVariants.{Tell, Audit}
 use Rattle.virtiofs_options.specs.declared.words.Words.{Words}
@@ -30,9 +30,9 @@ IsGuestOf {A} options parts guest = (none : Guest A) × HasNoOption none × Take
 -- what the words before the first `--` come to
 abbrev pub IsFront : Options → List Word → Front → Type 0
 IsFront options words (Tell telling) =
-    (parts : List Part) × AreParts options words parts × (first_told parts ≡ Some telling)
+    (parts : List Part) × AreParts options words parts × (told_last parts ≡ Some telling)
 IsFront options words (Audit asked values guest) =
-    (parts : List Part) × AreParts options words parts × (first_told parts ≡ None) × (not_shown parts ≡ None)
+    (parts : List Part) × AreParts options words parts × (told_last parts ≡ None) × (not_shown parts ≡ None)
     × (mixes parts ≡ false) × (is_beside parts ≡ false) × IsAsked parts asked × AreValues parts values
     × IsGuestOf options parts guest
 
@@ -40,7 +40,7 @@ IsFront options words (Audit asked values guest) =
 abbrev pub HasFrontFault : Options → List Word → Fault → Type 0
 HasFrontFault options words fault =
     HasFault options words fault
-    ⊎ ((parts : List Part) × AreParts options words parts × (first_told parts ≡ None) × IsAskedWrongly parts fault)
+    ⊎ ((parts : List Part) × AreParts options words parts × (told_last parts ≡ None) × IsAskedWrongly parts fault)
 
 -- a word that is not known before the first `--` belongs to a command line of the daemon: it is an option of the daemon,
 -- or no option where a word is the daemon's
@@ -55,14 +55,9 @@ front_fault options words (Unknown word) =
     else (if belongs options words word.now then BeforeDashes word else Unknown word)
 front_fault options words other = other
 
--- where the words after a place begin; without a place, there are none
-abbrev pub start_after : List (Bor (List ℕ)) → Option ℕ → ℕ
-start_after words None = length words
-start_after words (Some end) = end + 1
-
--- the words after the first `--`
+-- the words after the first `--`; without one, there are none
 abbrev pub rest_of : List (Bor (List ℕ)) → List (Bor (List ℕ))
-rest_of words = drop (start_after words (first_end words)) words
+rest_of words = unwrap_or (after_line words) []
 
 -- processes are named, or those that run are asked for, and no command line
 abbrev pub names_processes : {A : Type 0} → Asked → Values → Guest A → List (Bor (List ℕ)) → Bool

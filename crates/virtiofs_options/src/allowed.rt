@@ -1,34 +1,25 @@
 //! Which values the daemon takes.
 ghost use Rattle.std.specs.Char.{is_ascii_digit};
-ghost use Rattle.std.specs.List.{list_all};
-ghost use Rattle.std.specs.Prelude.{◌≡◌};
-ghost use Rattle.virtiofs_options.specs.Allowed.{allows, are_digits, is_of, is_of_any_case, unsigned};
+ghost use Rattle.std.specs.List.{list_all, list_any};
+ghost use Rattle.std.specs.Prelude.{◌≡◌, bytes_eq};
+ghost use Rattle.std.specs.Str.{str_eq_ignore_ascii_case};
+ghost use Rattle.virtiofs_options.specs.Allowed.{allows, are_digits};
 
 use crate::cluster::stripped;
 use crate::options::Values;
 
 /// Whether a text is one of these.
 fn is_of(texts: &[&str], value: &str) -> bool
-    ensures { result ≡ is_of texts.now value.now }
+    ensures { result ≡ list_any (λ it. bytes_eq it.now value.now) texts.now }
 {
     texts.iter().any(|it| *it == value)
 }
 
 /// Whether a text is one of these, but for small letters and large.
 fn is_of_any_case(texts: &[&str], value: &str) -> bool
-    ensures { result ≡ is_of_any_case texts.now value.now }
+    ensures { result ≡ list_any (λ it. str_eq_ignore_ascii_case it.now value.now) texts.now }
 {
     texts.iter().any(|it| it.eq_ignore_ascii_case(value))
-}
-
-/// What follows a `+`, if a text begins with it.
-fn unsigned(value: &str) -> &str
-    ensures { result.now ≡ unsigned value.now }
-{
-    match stripped("+", value) {
-        Some(digits) => digits,
-        None => value,
-    }
 }
 
 /// Whether all bytes are digits.
@@ -42,7 +33,7 @@ fn all_digits(bytes: &[u8]) -> bool
 fn are_digits(value: &str) -> bool
     ensures { result ≡ are_digits value.now }
 {
-    let digits = unsigned(value).as_bytes();
+    let digits = stripped("+", value).unwrap_or(value).as_bytes();
     !digits.is_empty() && all_digits(digits)
 }
 

@@ -1,10 +1,9 @@
 //! Short options that are joined in one word, as `-doxattr`, made words of their own.
-ghost use Rattle.std.specs.Prelude.{◌≡◌, ◌++◌, ℕ, List, OnOk, IfOk, map, flat_map, option_map};
+ghost use Rattle.std.specs.Prelude.{◌≡◌, ◌++◌, OnOk, IfOk, map, option_map};
 ghost use Rattle.virtiofs_options.specs.Clusters.{after_letter, cluster, is_bare, is_cluster, joined_in, plain, short_of, split_words, stripped, value_words, words_in};
 
-use crate::command::{is_last, is_option};
+use crate::command::{Word, is_last, is_option};
 use crate::options::{Known, Options, Takes};
-use crate::word::Word;
 use std::alloc::{AllocError, Global};
 
 /// The option that a letter names, where it is known.

@@ -1,11 +1,29 @@
 //! Words, part by part, as the options that are known say which have a value.
-ghost use Rattle.std.specs.Prelude.{◌≡◌, ◌↔◌, ℕ, ◌∷◌, List, IsTrue, IsFalse, IfOk, IfErr, MatchOption, option_map};
+ghost use Rattle.std.specs.Prelude.{◌≡◌, ℕ, ◌∷◌, List, IsTrue, IsFalse, IfOk, IfErr, MatchOption, option_map};
 ghost use Rattle.virtiofs_options.specs.GuestOptions.{is_flag, value_in};
-ghost use Rattle.virtiofs_options.specs.Parts.{known_of, key_of, is_option, is_last, sets_by, IsOption, JoinsLong, Names, StandsFirst, IsWrong};
+ghost use Rattle.virtiofs_options.specs.Parts.{begins_option, known_of, key_of, is_option, is_last, sets_by, IsOption, JoinsLong, Names, StandsFirst, IsWrong};
 
 use crate::fault::Fault;
 use crate::options::{Known, Options, Sets, Takes};
-use crate::word::Word;
+
+/// A word, once joined short options are words of their own.
+#[derive(Clone, Copy)]
+pub(crate) struct Word<'a> {
+    /// The text.
+    pub(crate) text: &'a str,
+    /// Whether it was joined to the letter of the option before it, as `-x` in `-o-x`: then it is the
+    /// value of that option, whatever it begins with.
+    pub(crate) is_joined: bool,
+}
+
+impl Word<'_> {
+    /// Whether the word looks like an option. Such a word is no value of the option before it.
+    pub(crate) fn is_option(self) -> bool
+        ensures { result ≡ begins_option self.entry }
+    {
+        !self.is_joined && is_option(self.text)
+    }
+}
 
 /// What one or two words of a command line are.
 #[derive(Clone, Copy)]
@@ -56,7 +74,7 @@ impl<'a> Part<'a> {
 pub(crate) fn is_last(sets: Sets) -> bool
     ensures { result ≡ is_last sets }
 {
-    matches!(sets, Sets::Tells)
+    matches!(sets, Sets::Tells(_))
 }
 
 /// The text before the first `=`, or all of it.

@@ -3,11 +3,11 @@ ghost use Rattle.std.specs.Prelude.{◌≡◌};
 ghost use Rattle.virtiofs_options.specs.declared.fault.ReadError.TheVariants.{OutOfMemory, Wrong};
 
 use crate::command::key_of;
-use crate::nearest::nearest;
 use crate::options::{Known, OF_DAEMON, OWN};
 use crate::shown::Shown;
 use crate::unknown::{MOST_SHOWN, front_of};
 use std::alloc::{AllocError, AllocFailed, Global};
+use strsim::levenshtein;
 
 /// What is wrong with words.
 #[derive(Clone, Copy)]
@@ -95,6 +95,21 @@ pub fn shown(alloc: Global, word: &str) -> Result<String, AllocError> {
     Ok(text)
 }
 
+/// The first of the names with the fewest edits between it and the word: characters put in, taken
+/// out or changed. The time is the product of the characters of the word and of all names.
+fn nearest(alloc: Global, word: &str, known: &[Known]) -> Result<&'static str, AllocError> {
+    let mut best = "--help";
+    let mut fewest = usize::MAX;
+    for it in known {
+        let edits = levenshtein(alloc, word, it.name)?;
+        if edits < fewest {
+            best = it.name;
+            fewest = edits;
+        }
+    }
+    Ok(best)
+}
+
 /// The sentence on what is not known. The first characters of `name`, as many as a sentence quotes,
 /// are compared with what is known.
 fn unknown_text(
@@ -114,11 +129,6 @@ fn unknown_text(
 fn word_text(alloc: Global, begin: &str, word: &str, end: &str) -> Result<String, AllocError> {
     let word = shown(alloc, word)?;
     format!(in alloc; "{begin}{word}{end}\n")
-}
-
-/// The sentence on an option, which ends so.
-fn option_text(alloc: Global, option: &str, end: &str) -> Result<String, AllocError> {
-    format!(in alloc; "'{option}' {end}\n")
 }
 
 /// The sentence on a value that the daemon refuses.
@@ -144,7 +154,7 @@ const WHOLE: &str = " is more than one word of a command line: remove the quotes
 const BEFORE_DASHES: &str = ": put '--' before the command line of virtiofsd";
 
 /// How the sentence on an option of the program after the first `--` ends.
-const AFTER_DASHES: &str = "is an option of virtiofs_mapaudit: put it before the first '--'";
+const AFTER_DASHES: &str = " is an option of virtiofs_mapaudit: put it before the first '--'";
 
 /// How the sentence on a word that is no option ends.
 const STRAY: &str = ": virtiofsd takes no words but options and their values";
@@ -172,9 +182,9 @@ pub fn fault_text(alloc: Global, fault: Fault<'_>) -> Result<String, AllocError>
         Fault::OlderUnknown(text) => {
             unknown_text(alloc, "part of '-o'", text, key_of(text), OF_DAEMON.older)
         }
-        Fault::Missing(option) => option_text(alloc, option, "lacks its value"),
-        Fault::Unwanted(option) => option_text(alloc, option, "has no value"),
-        Fault::AfterDashes(option) => option_text(alloc, option, AFTER_DASHES),
+        Fault::Missing(option) => word_text(alloc, "", option, " lacks its value"),
+        Fault::Unwanted(option) => word_text(alloc, "", option, " has no value"),
+        Fault::AfterDashes(option) => word_text(alloc, "", option, AFTER_DASHES),
         Fault::NotShown(value) => word_text(alloc, "'--show' has no value ", value, NOT_SHOWN),
         Fault::Whole(word) => word_text(alloc, "", word, WHOLE),
         Fault::BeforeDashes(word) => word_text(alloc, "unknown word ", word, BEFORE_DASHES),

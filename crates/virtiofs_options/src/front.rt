@@ -1,11 +1,12 @@
 //! What the words before the first `--` ask for.
-ghost use Rattle.std.specs.Prelude.{◌≡◌, ◌||◌, true, false, None, find, is_some, IsOk, IfOk, IfErr};
-ghost use Rattle.virtiofs_options.specs.AskedOptions.{has_shown, has_value, not_shown, IsAsked, IsAskedWrongly, mixes, is_beside, tells, first_told};
+ghost use Rattle.std.specs.Prelude.{◌≡◌, ◌||◌, false, None, IsOk, IfOk, IfErr};
+ghost use Rattle.virtiofs_options.specs.AskedOptions.{has_shown, has_value, not_shown, IsAsked, IsAskedWrongly, mixes, is_beside, told_last};
 ghost use Rattle.virtiofs_options.specs.GuestOptions.{has_flag};
 
 use crate::command::Part;
 use crate::fault::Fault;
 use crate::help::Telling;
+use crate::options::Sets;
 
 /// What is to be shown, and how.
 #[derive(Clone, Copy)]
@@ -103,40 +104,12 @@ pub(crate) fn asked_of<'a>(parts: &[Part<'a>]) -> Result<Asked, Fault<'a>>
     Ok(asked)
 }
 
-/// What the program is to tell of itself, where a part asks for that.
-#[tactic(auto, unfolding(crate::specs::AskedOptions::tells))]
-fn tells(part: Part<'_>) -> Option<Telling>
-    ensures { result ≡ tells part.entry }
-{
-    if part.is_flag("--help") || part.is_flag("-h") {
-        return Some(Telling::Help);
-    }
-    if part.is_flag("--version") || part.is_flag("-V") {
-        return Some(Telling::Version);
-    }
-    None
-}
-
-/// Whether a part asks the program to tell of itself.
-fn asks(part: Part<'_>) -> bool
-    ensures { result ≡ is_some (tells part.entry) }
-{
-    tells(part).is_some()
-}
-
-/// The first of the parts that asks the program to tell of itself.
-fn first_asking<'a>(parts: &[Part<'a>]) -> Option<Part<'a>>
-    ensures { result ≡ find (λ part. is_some (tells part)) parts.now }
-{
-    parts.iter().find(|part| asks(**part)).copied()
-}
-
-/// What the first of the parts tells that asks for that.
+/// What the program is to tell of itself, if the last part asks for that: nothing is read after it.
 pub(crate) fn telling_of(parts: &[Part<'_>]) -> Option<Telling>
-    ensures { result ≡ first_told parts.now }
+    ensures { result ≡ told_last parts.now }
 {
-    match first_asking(parts) {
-        Some(part) => tells(part),
-        None => None,
+    match parts.last()?.sets() {
+        Sets::Tells(telling) => Some(telling),
+        _ => None,
     }
 }

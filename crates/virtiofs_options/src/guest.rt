@@ -1,10 +1,9 @@
 //! The options of the daemon of one guest, as texts.
-ghost use Rattle.std.specs.Prelude.{◌≡◌, ◌∷◌, [], OnOk, unwrap_or};
-ghost use Rattle.std.specs.Option.{option_or};
+ghost use Rattle.std.specs.Prelude.{◌≡◌, ◌∷◌, [], OnOk};
 ghost use Rattle.virtiofs_options.specs.GuestOptions.{Adds, HasNoOption, TakesIn, has_any, has_xattrs, sandbox_by, sandbox_of, text_in};
 
 use crate::command::Part;
-use crate::older::{Older, read_older};
+use crate::older::older_parts;
 use crate::options::{Known, Options, Sets, Switch};
 use crate::starter::{ROOT, Starter};
 use std::alloc::{AllocError, Allocator};
@@ -135,12 +134,13 @@ impl<'a, A: Allocator + Copy> Guest<'a, A> {
         ensures { Adds self.old self.new (Part.Flag row ∷ []) }
     {
         match row.sets {
-            Sets::Turns(Switch::Acl, true) => {
+            Sets::AclFlag => {
                 self.posix_acl = true;
                 self.acl_flag = true;
             }
-            Sets::Turns(Switch::Xattr, true) => self.xattr = true,
-            Sets::Turns(Switch::Label, true) => self.security_label = true,
+            Sets::Turns(Switch::Acl, on) => self.posix_acl = on,
+            Sets::Turns(Switch::Xattr, on) => self.xattr = on,
+            Sets::Turns(Switch::Label, on) => self.security_label = on,
             _ => {}
         }
     }
@@ -159,33 +159,22 @@ impl<'a, A: Allocator + Copy> Guest<'a, A> {
         }
     }
 
-    /// Takes in options of the daemon's older form.
-    fn take_older(&mut self, older: Older<'a>)
-        ensures rules { self.new.xattrmap ≡ option_or older.entry.xattrmap self.old.xattrmap }
-        ensures lists { self.new.posix_acl ≡ unwrap_or older.entry.posix_acl self.old.posix_acl }
-        ensures users { self.new.translate_uid ≡ self.old.translate_uid }
-        ensures groups { self.new.translate_gid ≡ self.old.translate_gid }
-        ensures user_ranges { self.new.uid_map ≡ self.old.uid_map }
-        ensures group_ranges { self.new.gid_map ≡ self.old.gid_map }
-        ensures flag { self.new.acl_flag ≡ self.old.acl_flag }
-        ensures xattr { self.new.xattr ≡ unwrap_or older.entry.xattr self.old.xattr }
-        ensures label { self.new.security_label
-            ≡ unwrap_or older.entry.security_label self.old.security_label }
-        ensures sandbox { self.new.sandbox ≡ option_or older.entry.sandbox self.old.sandbox }
+    /// Takes in parts of a command line of the daemon. Of options that a daemon has once, the last counts,
+    /// as `virtiofsd` takes them. Words that are no options, as the path of the program, are passed over.
+    fn take_all(&mut self, parts: &[Part<'a>]) -> Result<(), AllocError>
+        ensures { OnOk result (Adds self.old self.new parts.now) }
     {
-        self.xattrmap = older.xattrmap.or(self.xattrmap);
-        self.posix_acl = older.posix_acl.unwrap_or(self.posix_acl);
-        self.xattr = older.xattr.unwrap_or(self.xattr);
-        self.security_label = older.security_label.unwrap_or(self.security_label);
-        self.sandbox = older.sandbox.or(self.sandbox);
+        for part in parts {
+            self.take_part(*part)?;
+        }
+        Ok(())
     }
 
-    /// Takes in the parts of a command line of the daemon. Of options that a daemon has once, the
-    /// last counts, as `virtiofsd` takes them. Options of the older form count more than the others,
-    /// wherever they stand. Words that are no options, as the path of the program, are passed over.
-    /// Also says who starts the daemon.
+    /// Takes in the parts of a command line of the daemon. Options of the older form count more than the
+    /// others, wherever they stand. Also says who starts the daemon.
     pub(crate) fn take_parts(
         &mut self,
+        alloc: A,
         options: Options,
         parts: &[Part<'a>],
         starter: Starter<'a>,
@@ -193,10 +182,9 @@ impl<'a, A: Allocator + Copy> Guest<'a, A> {
         ensures takes { OnOk result (TakesIn options self.old self.new parts.now) }
         ensures starter { OnOk result (self.new.starter ≡ starter.entry) }
     {
-        for part in parts {
-            self.take_part(*part)?;
-        }
-        self.take_older(read_older(options, parts));
+        let older = older_parts(alloc, options, parts)?;
+        self.take_all(parts)?;
+        self.take_all(older.as_slice())?;
         self.starter = starter;
         Ok(())
     }

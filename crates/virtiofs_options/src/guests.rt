@@ -1,6 +1,6 @@
 //! The guests that command lines of the daemon make.
-ghost use Rattle.std.specs.Prelude.{◌≡◌, ◌<◌, ◌≤◌, ◌+◌, ◌++◌, length, map, option_map, IfSome, IfOk, IfErr, OnOk};
-ghost use Rattle.virtiofs_options.specs.Guests.{start_of, lacking_fault, Told, IsLine, AddsLine, IsLineFault, AddsGuest, IsGuestFault, IsProcess, IsProcessFault, AreGuests, HasGuestFault};
+ghost use Rattle.std.specs.Prelude.{◌≡◌, ◌<◌, ◌≤◌, ◌+◌, ◌++◌, length, map, option_map, IfSome, IfOk, IfErr};
+ghost use Rattle.virtiofs_options.specs.Guests.{start_of, lacking_fault, Told, IsLine, IsLineFault, AddsGuest, IsGuestFault, IsProcess, IsProcessFault, AreGuests, HasGuestFault};
 ghost use Rattle.virtiofs_options.specs.Parts.{WrongOnly};
 ghost use Rattle.virtiofs_options.specs.Unknown.{told};
 
@@ -71,34 +71,8 @@ fn line_guest<'a>(
     check_line(alloc, options, parts.as_slice())?;
     push_unknown(unknown, options, number, parts.as_slice())?;
     let mut guest = first;
-    guest.take_parts(options, parts.as_slice(), starter)?;
+    guest.take_parts(alloc, options, parts.as_slice(), starter)?;
     Ok(guest)
-}
-
-/// Reads the words of the command line of a further guest, which has the options of `first` already.
-fn read_line<'a>(
-    alloc: Global,
-    options: Options,
-    line: &[&'a str],
-    starter: Starter<'a>,
-    first: Guest<'a, Global>,
-    read: &mut Guests<'a>,
-) -> Result<(), ReadError<'a>>
-    ensures read { OnOk result (AddsLine options starter.entry first.entry line.now read.old read.new) }
-    ensures refused { IfErr result (WrongOnly (IsLineFault options line.now)) }
-{
-    let number = read.guests.len() + 1;
-    let guest = line_guest(
-        alloc,
-        options,
-        number,
-        line,
-        starter,
-        first,
-        &mut read.unknown,
-    )?;
-    read.guests.push(guest)?;
-    Ok(())
 }
 
 /// Reads the command line of a further guest, which words begin with, and returns what is left of the
@@ -116,14 +90,25 @@ fn add_guest<'w, 'a>(
     ensures refused { IfErr result (WrongOnly (IsGuestFault options
         (length read.old.guests.items + 1) first.entry words.now)) }
 {
+    let number = read.guests.len() + 1;
     let Some(start) = start_of(options, first.has_any(), words) else {
-        let number = read.guests.len() + 1;
         return Err(ReadError::Wrong(lacking_fault(options, number, words)));
     };
     let starter = starter_of(options, &words[..start]);
     let words = tail_of(words, start);
-    match read_line(alloc, options, line_of(words), starter, first, read) {
-        Ok(()) => Ok(after_line(words)),
+    match line_guest(
+        alloc,
+        options,
+        number,
+        line_of(words),
+        starter,
+        first,
+        &mut read.unknown,
+    ) {
+        Ok(guest) => {
+            read.guests.push(guest)?;
+            Ok(after_line(words))
+        }
         Err(error) => Err(error),
     }
 }

@@ -1,30 +1,13 @@
 //! The help and the version, written by `clap`.
 
-use crate::options::{Known, OWN, Takes};
+use crate::options::{Known, OWN, Takes, Values};
 use clap::{Arg, ArgAction, Command};
 use std::alloc::{AllocError, Global};
-
-/// An option that has a value.
-fn valued<'a>(alloc: Global, name: &'a str, value: &'a str, help: &'a str) -> Arg<'a> {
-    Arg::new(alloc, name)
-        .long(name)
-        .action(ArgAction::Append)
-        .value_name(value)
-        .help(help)
-}
-
-/// An option that has no value.
-fn flag<'a>(alloc: Global, name: &'a str, help: &'a str) -> Arg<'a> {
-    Arg::new(alloc, name)
-        .long(name)
-        .action(ArgAction::SetTrue)
-        .help(help)
-}
 
 /// The program, with no options yet.
 fn program<'a>(alloc: Global) -> Command<'a> {
     Command::new(alloc, "virtiofs_mapaudit")
-        .version("3.2.0")
+        .version("3.2.1")
         .about(
             "Says what the options of a virtiofsd do to ids and names, and what is wrong with them.",
         )
@@ -34,20 +17,16 @@ fn program<'a>(alloc: Global) -> Command<'a> {
         .override_usage("virtiofs_mapaudit [OPTIONS] [-- COMMAND LINE OF THE DAEMON]..")
 }
 
-/// An option of the table.
-fn argument<'a>(
-    alloc: Global,
-    takes: Takes,
-    name: &'a str,
-    value: &'a str,
-    help: &'a str,
-) -> Arg<'a> {
-    match takes {
-        Takes::Nothing => flag(alloc, name, help),
-        _ if name == "show" => {
-            valued(alloc, name, value, help).value_parser(["ids", "names"].as_slice())
-        }
-        _ => valued(alloc, name, value, help),
+/// An option of the table, by its name without the `--`.
+fn argument<'a>(alloc: Global, row: Known, name: &'a str) -> Arg<'a> {
+    let argument: Arg<'a> = Arg::new(alloc, name).long(name).help(row.help);
+    match (row.takes, row.values) {
+        (Takes::Nothing, _) => argument.action(ArgAction::SetTrue),
+        (_, Values::Of(texts)) => argument
+            .action(ArgAction::Append)
+            .value_name(row.shown)
+            .value_parser(texts),
+        _ => argument.action(ArgAction::Append).value_name(row.shown),
     }
 }
 
@@ -57,12 +36,8 @@ fn with_row<'a>(
     command: Command<'a>,
     row: Known,
 ) -> Result<Command<'a>, AllocError> {
-    let (value, help) = (row.shown, row.help);
     match row.name.strip_prefix("--") {
-        Some(name) if !help.is_empty() => {
-            let argument: Arg<'a> = argument(alloc, row.takes, name, value, help);
-            command.arg(argument)
-        }
+        Some(name) if !row.help.is_empty() => command.arg(argument(alloc, row, name)),
         _ => Ok(command),
     }
 }

@@ -1,6 +1,6 @@
 //! Reads the words of `virtiofs_mapaudit`: its own options, and the options of each guest's virtiofsd.
 //!
-//! Joined short options become words of their own (`cluster`, `word`), words become parts (`parts`),
+//! Joined short options become words of their own (`cluster`), words become parts (`parts`),
 //! and parts become what is asked for (`front`) and the options of a guest (`guest`, `older`). The
 //! contracts say what counts: values in the order of the words, of `--xattrmap` the last, and older
 //! options before the others. `read_words` puts all of it together (`words`), and `read_process` reads
@@ -16,7 +16,6 @@ pub mod guest;
 pub mod guests;
 pub mod help;
 mod line;
-mod nearest;
 mod older;
 pub mod options;
 mod parts;
@@ -27,5 +26,4 @@ mod strays;
 pub mod unknown;
 pub mod values;
 mod whole;
-mod word;
 pub mod words;

@@ -1,6 +1,7 @@
 //! Where the command line of a daemon begins and ends among words.
+ghost use Rattle.std.specs.List.{list_any};
 ghost use Rattle.std.specs.Prelude.{◌≡◌, ◌<◌, ◌≤◌, length, drop, option_map, IfSome};
-ghost use Rattle.virtiofs_options.specs.Lines.{first_end, line_of, after_line, is_daemon, concerns, is_counted, opens_with_option, has_counted, has_options, first_daemon, daemon_place, beginning};
+ghost use Rattle.virtiofs_options.specs.Lines.{first_end, line_of, after_line, is_daemon, concerns, is_counted, opens_with_option, has_options, first_daemon, daemon_place, beginning};
 
 use crate::command::{is_option, key_of};
 use crate::options::{Options, Sets, Switch};
@@ -54,7 +55,7 @@ pub(crate) fn concerns(sets: Sets) -> bool
 {
     match sets {
         Sets::TranslateUid | Sets::TranslateGid | Sets::UidMap | Sets::GidMap => true,
-        Sets::Xattrmap | Sets::Turns(Switch::Acl, _) => true,
+        Sets::Xattrmap | Sets::AclFlag | Sets::Turns(Switch::Acl, _) => true,
         _ => false,
     }
 }
@@ -82,7 +83,7 @@ fn opens_with_option(words: &[&str]) -> bool
 
 /// Whether one of the words is an option for ids or names.
 fn has_counted(options: Options, words: &[&str]) -> bool
-    ensures { result ≡ has_counted options words.now }
+    ensures { result ≡ list_any (λ word. is_counted options word.now) words.now }
 {
     words.iter().any(|word| is_counted(options, word))
 }

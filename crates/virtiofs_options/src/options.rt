@@ -56,14 +56,14 @@ pub(crate) enum Sets {
     Xattrmap,
     /// What is on, or off.
     Turns(Switch, bool),
+    /// That access control lists are on, by the option of the newer form.
+    AclFlag,
     /// How the daemon is kept apart from the host.
     Sandbox,
-    /// Which directory is shared, in the older form.
-    Source,
     /// What the options of the older form in its value say.
     Older,
-    /// That the program or the daemon tells of itself, and reads no further.
-    Tells,
+    /// What the program or the daemon tells of itself; it reads no further.
+    Tells(Telling),
     /// That the daemon says what it is able to do, and ends.
     Prints,
     /// That the socket is open already.
@@ -118,8 +118,9 @@ pub(crate) struct Start {
     pub(crate) says: Says,
 }
 
+use crate::help::Telling::{self, Help, Version};
 use Sets::{
-    Fd, GidMap, Group, Older, Other, Prints, Sandbox, Socket, Source, Tells, TranslateGid,
+    AclFlag, Fd, GidMap, Group, Older, Other, Prints, Sandbox, Socket, Tells, TranslateGid,
     TranslateUid, Turns, UidMap, Xattrmap,
 };
 use Switch::{Acl, Label, Xattr};
@@ -162,21 +163,21 @@ pub const OF_DAEMON: Options = Options {
     plain: true,
 };
 
-/// A table, with a row for each option: whether it has a value, what it sets, which values it takes, what
-/// stands for its value in the help, and what the help says of it.
+/// A table, with a row for options that have the same: whether they have a value, what they set, which
+/// values they take, and of the help what stands for the value, and what it says.
 macro_rules! table {
-    ($($name:literal: $takes:ident, $sets:expr, $values:expr, $shown:literal, $help:literal;)*) => {
-        [$(Known {
+    ($($($name:literal)+: $takes:ident, $sets:expr, $values:expr, $shown:literal, $help:literal;)*) => {
+        [$($(Known {
             name: $name,
             takes: Takes::$takes,
             sets: $sets,
             values: $values,
             shown: $shown,
             help: $help,
-        }),*]
+        },)+)*]
     };
-    ($($name:literal: $takes:ident, $sets:expr, $values:expr;)*) => {
-        table! { $($name: $takes, $sets, $values, "", "";)* }
+    ($($($name:literal)+: $takes:ident, $sets:expr, $values:expr;)*) => {
+        table! { $($($name)+: $takes, $sets, $values, "", "";)* }
     };
 }
 
@@ -188,7 +189,7 @@ const OPTIONS: [Known; 24] = table! {
     "--uid-map": Value, UidMap, Any, "RANGE", "A range of users of the daemon's namespace";
     "--gid-map": Value, GidMap, Any, "RANGE", "A range of groups of the daemon's namespace";
     "--xattrmap": Value, Xattrmap, Any, "RULES", "Map names of attributes";
-    "--posix-acl": Nothing, Turns(Acl, true), Any, "", "Access control lists are on";
+    "--posix-acl": Nothing, AclFlag, Any, "", "Access control lists are on";
     "--xattr": Nothing, Turns(Xattr, true), Any, "", "Extended attributes are on, also without rules";
     "--accept": Value, Other, Any, "KIND",
         "Findings of this kind, named as in JSON, do not count for the status";
@@ -203,18 +204,20 @@ const OPTIONS: [Known; 24] = table! {
         "The user who starts the daemon; more than once: of each command line in turn";
     "--subuid": Value, Other, Any, "FILE", "Read FILE in place of /etc/subuid";
     "--subgid": Value, Other, Any, "FILE", "Read FILE in place of /etc/subgid";
-    "--show": Value, Other, Any, "WHAT", "Show also what becomes of all ids, or of some names";
+    "--show": Value, Other, Of(&SHOWN), "WHAT", "Show also what becomes of all ids, or of some names";
     "--json": Nothing, Other, Any, "", "Write JSON";
     "--quiet": Nothing, Other, Any, "", "Write nothing: the status tells";
     "--mend": Nothing, Other, Any, "", "Write mended options alone, each on a line";
     "--svg": Nothing, Other, Any, "", "Draw what becomes of all ids, as SVG";
-    "--help": Nothing, Tells, Any, "", "";
-    "-h": Nothing, Tells, Any, "", "";
-    "--version": Nothing, Tells, Any, "", "";
-    "-V": Nothing, Tells, Any, "", "";
+    "--help": Nothing, Tells(Help), Any, "", "";
+    "-h": Nothing, Tells(Help), Any, "", "";
+    "--version": Nothing, Tells(Version), Any, "", "";
+    "-V": Nothing, Tells(Version), Any, "", "";
 };
 
 /// The values of some options.
+const SHOWN: [&str; 2] = ["ids", "names"];
+
 const SANDBOXES: [&str; 3] = ["namespace", "chroot", "none"];
 
 const SECCOMPS: [&str; 4] = ["none", "kill", "log", "trap"];
@@ -242,45 +245,31 @@ const OPTIONS_OF_DAEMON: [Known; 45] = table! {
     "--uid-map": Value, UidMap, Any;
     "--gid-map": Value, GidMap, Any;
     "--xattrmap": Value, Xattrmap, Any;
-    "--posix-acl": Nothing, Turns(Acl, true), Any;
+    "--posix-acl": Nothing, AclFlag, Any;
     "--sandbox": Value, Sandbox, AnyCase(&SANDBOXES);
     "-o": Value, Older, Any;
     "--fd": Value, Fd, Any;
-    "--socket": Value, Socket, Any;
-    "--socket-path": Value, Socket, Any;
+    "--socket" "--socket-path": Value, Socket, Any;
     "--socket-group": Value, Group, Any;
-    "--help": Nothing, Tells, Any;
-    "--version": Nothing, Tells, Any;
-    "-h": Nothing, Tells, Any;
-    "-V": Nothing, Tells, Any;
+    "--help": Nothing, Tells(Help), Any;
+    "--version": Nothing, Tells(Version), Any;
+    "-h": Nothing, Tells(Help), Any;
+    "-V": Nothing, Tells(Version), Any;
     "--print-capabilities": Nothing, Prints, Any;
     "--tag": Value, Other, Tag;
-    "--thread-pool-size": Value, Other, Digits;
-    "--rlimit-nofile": Value, Other, Digits;
+    "--thread-pool-size" "--rlimit-nofile": Value, Other, Digits;
     "--seccomp": Value, Other, Of(&SECCOMPS);
     "--inode-file-handles": AfterEquals, Other, Of(&HANDLES);
     "--cache": Value, Other, AnyCase(&CACHES);
     "--log-level": Value, Other, AnyCase(&LOG_LEVELS);
     "--migration-mode": Value, Other, Of(&MIGRATIONS);
     "--migration-on-error": Value, Other, Of(&ON_ERRORS);
-    "--shared-dir": Value, Other, Any;
-    "--modcaps": Value, Other, Any;
+    "--shared-dir" "--modcaps": Value, Other, Any;
     "--xattr": Nothing, Turns(Xattr, true), Any;
-    "--announce-submounts": Nothing, Other, Any;
-    "--no-announce-submounts": Nothing, Other, Any;
-    "--allow-mmap": Nothing, Other, Any;
-    "--no-readdirplus": Nothing, Other, Any;
-    "--writeback": Nothing, Other, Any;
-    "--allow-direct-io": Nothing, Other, Any;
-    "--syslog": Nothing, Other, Any;
-    "--no-killpriv-v2": Nothing, Other, Any;
-    "--killpriv-v2": Nothing, Other, Any;
+    "--announce-submounts" "--no-announce-submounts" "--allow-mmap" "--no-readdirplus" "--writeback"
+    "--allow-direct-io" "--syslog" "--no-killpriv-v2" "--killpriv-v2": Nothing, Other, Any;
     "--security-label": Nothing, Turns(Label, true), Any;
-    "--preserve-noatime": Nothing, Other, Any;
-    "--readonly": Nothing, Other, Any;
-    "--migration-verify-handles": Nothing, Other, Any;
-    "--migration-confirm-paths": Nothing, Other, Any;
-    "-d": Nothing, Other, Any;
+    "--preserve-noatime" "--readonly" "--migration-verify-handles" "--migration-confirm-paths" "-d"
     "-f": Nothing, Other, Any;
 };
 
@@ -290,88 +279,62 @@ const OLDER_OPTIONS: [Known; 23] = table! {
     "posix_acl": Nothing, Turns(Acl, true), Any;
     "no_posix_acl": Nothing, Turns(Acl, false), Any;
     "sandbox=": Value, Sandbox, Of(&OLDER_SANDBOXES);
-    "source=": Value, Source, NoEquals;
+    "source=": Value, Other, NoEquals;
     "modcaps=": Value, Other, NoEquals;
     "cache=": Value, Other, Of(&OLDER_CACHES);
     "loglevel=": Value, Other, Of(&OLDER_LOG_LEVELS);
     "xattr": Nothing, Turns(Xattr, true), Any;
     "no_xattr": Nothing, Turns(Xattr, false), Any;
-    "readdirplus": Nothing, Other, Any;
-    "no_readdirplus": Nothing, Other, Any;
-    "writeback": Nothing, Other, Any;
-    "no_writeback": Nothing, Other, Any;
-    "allow_direct_io": Nothing, Other, Any;
-    "no_allow_direct_io": Nothing, Other, Any;
-    "announce_submounts": Nothing, Other, Any;
-    "killpriv_v2": Nothing, Other, Any;
-    "no_killpriv_v2": Nothing, Other, Any;
+    "readdirplus" "no_readdirplus" "writeback" "no_writeback" "allow_direct_io"
+    "no_allow_direct_io" "announce_submounts" "killpriv_v2" "no_killpriv_v2": Nothing, Other, Any;
     "security_label": Nothing, Turns(Label, true), Any;
     "no_security_label": Nothing, Turns(Label, false), Any;
-    "no_posix_lock": Nothing, Other, Any;
-    "no_flock": Nothing, Other, Any;
+    "no_posix_lock" "no_flock": Nothing, Other, Any;
 };
 
-/// A table, with a row for each program and option.
+/// A table, with a row for words of a program that say the same.
 macro_rules! starts {
-    ($($program:literal $option:literal $says:ident,)*) => {
-        [$(Start { program: $program, option: $option, says: Says::$says }),*]
+    ($($program:literal: $($option:literal)+ => $says:ident,)*) => {
+        [$($(Start { program: $program, option: $option, says: Says::$says },)+)*]
     };
 }
 
 /// The programs that start others. Of rows that speak of the same words the first counts.
-const STARTERS: [Start; 52] = starts! {
-    "podman" "unshare" Namespace,
-    "podman" "--userns" Namespace,
-    "buildah" "unshare" Namespace,
-    "lxc-usernsexec" "" Namespace,
-    "rootlesskit" "" Namespace,
-    "unshare" "--user" Namespace,
-    "unshare" "--map-" Namespace,
-    "unshare" "-U" Namespace,
-    "unshare" "-r" Namespace,
-    "unshare" "-mU" Namespace,
-    "unshare" "-mr" Namespace,
-    "bwrap" "--unshare-user" Another,
-    "bwrap" "--unshare-all" Another,
-    "sudo" "-g" Group,
-    "sudo" "--group" Group,
-    "sudo" "-u" User,
-    "sudo" "--user" User,
-    "sudo" "-nu" User,
-    "sudo" "-Hu" User,
-    "sudo" "-iu" User,
-    "doas" "-u" User,
-    "su" "-g" Group,
-    "su" "" User,
-    "runuser" "-g" Group,
-    "runuser" "--group" Group,
-    "runuser" "-u" User,
-    "runuser" "--user" User,
-    "runuser" "" User,
-    "setpriv" "--reuid" Another,
-    "setpriv" "--euid" Another,
-    "chpst" "-u" User,
-    "setuidgid" "" User,
-    "gosu" "" User,
-    "su-exec" "" User,
-    "systemd-run" "--user" Another,
-    "systemd-run" "--gid" Group,
-    "systemd-run" "--uid" User,
-    "systemd-run" "Group=" Group,
-    "systemd-run" "User=" User,
-    "systemd-run" "--property=User=" User,
-    "systemd-run" "-pUser=" User,
-    "systemd-run" "DynamicUser=" Another,
-    "pkexec" "--user" User,
-    "run0" "--user" User,
-    "start-stop-daemon" "--chuid" User,
-    "start-stop-daemon" "-c" User,
-    "chroot" "--userspec" User,
-    "sudo" "" Root,
-    "doas" "" Root,
-    "pkexec" "" Root,
-    "run0" "" Root,
-    "systemd-run" "" Root,
+const STARTERS: [Start; 55] = starts! {
+    "podman": "unshare" "--userns" => Namespace,
+    "buildah": "unshare" => Namespace,
+    "lxc-usernsexec": "" => Namespace,
+    "rootlesskit": "" => Namespace,
+    "unshare": "--user" "--map-" "-U" "-r" "-mU" "-mr" => Namespace,
+    "bwrap": "--unshare-user" "--unshare-all" => Another,
+    "sudo": "-g" "--group" => Group,
+    "sudo": "-u" "--user" "-nu" "-Hu" "-iu" => User,
+    "doas": "-u" => User,
+    "su": "-g" => Group,
+    "su": "" => User,
+    "runuser": "-g" "--group" => Group,
+    "runuser": "-u" "--user" "" => User,
+    "setpriv": "--reuid" "--euid" => Another,
+    "chpst": "-u" => User,
+    "setuidgid": "" => User,
+    "gosu": "" => User,
+    "su-exec": "" => User,
+    "systemd-run": "--user" => Another,
+    "systemd-run": "--gid" => Group,
+    "systemd-run": "--uid" => User,
+    "systemd-run": "Group=" => Group,
+    "systemd-run": "User=" "--property=User=" "-pUser=" => User,
+    "systemd-run": "DynamicUser=" => Another,
+    "pkexec": "--user" => User,
+    "run0": "-g" "--group" => Group,
+    "run0": "-u" "--user" => User,
+    "start-stop-daemon": "--chuid" "-c" => User,
+    "chroot": "--userspec" => User,
+    "sudo": "" => Root,
+    "doas": "" => Root,
+    "pkexec": "" => Root,
+    "run0": "" => Root,
+    "systemd-run": "" => Root,
 };
 
 /// How root is named.

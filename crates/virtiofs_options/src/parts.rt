@@ -2,10 +2,9 @@
 ghost use Rattle.std.specs.Prelude.{◌≡◌, ◌≤◌, length, IfOk, IfErr};
 ghost use Rattle.virtiofs_options.specs.Parts.{AreParts, HasFault, WrongOnly, read_after};
 
-use crate::command::{Part, first_part, is_last};
+use crate::command::{Part, Word, first_part, is_last};
 use crate::fault::{Fault, ReadError};
 use crate::options::Options;
-use crate::word::Word;
 use std::alloc::Allocator;
 
 /// What is read of the words after a part: none where it is an option that tells of the program or the

@@ -1,15 +1,14 @@
 //! What the command line of a process that runs says: whether it is a daemon's, and what that shares.
 ghost use Rattle.std.specs.Prelude.{◌≡◌, ◌<◌, length, IfSome, IfOk, IfErr};
-ghost use Rattle.virtiofs_options.specs.GuestOptions.{text_in};
 ghost use Rattle.virtiofs_options.specs.Lines.{is_daemon};
 ghost use Rattle.virtiofs_options.specs.Parts.{WrongOnly};
-ghost use Rattle.virtiofs_options.specs.Running.{first_zero, first_word, last_of, directory_in, Shares, IsWordFault};
+ghost use Rattle.virtiofs_options.specs.Running.{first_zero, first_word, IsDirectoryIn, Shares, IsWordFault};
 
 use crate::cluster::split_words;
 use crate::command::Part;
 use crate::fault::ReadError;
 use crate::line::{is_daemon, line_of};
-use crate::older::read_older;
+use crate::older::older_parts;
 use crate::options::Options;
 use crate::parts::read_parts;
 use crate::values::values_in;
@@ -41,26 +40,18 @@ pub fn runs_daemon(cmdline: &[u8]) -> bool
     is_daemon(first_word(cmdline))
 }
 
-/// The last of some values.
-fn last_of<'a>(values: &[&'a str]) -> Option<&'a str>
-    ensures { result ≡ last_of values.now }
-{
-    values.last().copied()
-}
-
 /// The directory that is shared, if the parts say one.
 fn directory_in<'a>(
     alloc: Global,
     options: Options,
     parts: &[Part<'a>],
 ) -> Result<Option<&'a str>, AllocError>
-    ensures { IfOk result (λ it. text_in it ≡ directory_in options parts.now) }
+    ensures { IfOk result (IsDirectoryIn options parts.now) }
 {
     let newer = values_in(alloc, parts, "--shared-dir")?;
-    match read_older(options, parts).source {
-        Some(text) => Ok(Some(text)),
-        None => Ok(last_of(newer.as_slice())),
-    }
+    let older = older_parts(alloc, options, parts)?;
+    let sources = values_in(alloc, older.as_slice(), "source=")?;
+    Ok(sources.last().copied().or(newer.last().copied()))
 }
 
 /// The directory that the words of a daemon say it shares: the older form counts more, and of each form
@@ -74,7 +65,7 @@ pub fn shared_directory<'a>(
     options: Options,
     words: &[&'a str],
 ) -> Result<Option<&'a str>, ReadError<'a>>
-    ensures read { IfOk result (λ it. Shares options words.now (text_in it)) }
+    ensures read { IfOk result (Shares options words.now) }
     ensures refused { IfErr result (WrongOnly (IsWordFault options words.now)) }
 {
     let words = split_words(alloc, options, line_of(words))?;

@@ -1,7 +1,8 @@
 //! Who starts the daemon, by the words before the daemon's.
-ghost use Rattle.std.specs.Prelude.{◌≡◌, ◌<◌, length, option_map, IfSome};
+ghost use Rattle.std.specs.List.{ends_with, list_any};
+ghost use Rattle.std.specs.Prelude.{◌≡◌, ◌<◌, length, nat_eq, option_map, IfSome};
 ghost use Rattle.virtiofs_options.specs.GuestOptions.{text_in};
-ghost use Rattle.virtiofs_options.specs.Starters.{bare, has_program, is_mark, is_name, is_root, mark_of, names_root, next_name, rest_of, row_of, speaks, user_behind, user_by, by_of, named_by, IsStarter};
+ghost use Rattle.virtiofs_options.specs.Starters.{bare, is_mark, is_name, mark_of, names_root, next_name, plain_starter, rest_of, row_of, speaks, starter_by, user_behind, user_by, IsStarter};
 
 use crate::cluster::stripped;
 use crate::options::{Options, Says, Start};
@@ -54,7 +55,7 @@ fn mark_of(row: Start, words: &[&str]) -> Option<usize>
 
 /// Whether one of the words is a program's.
 fn has_program(program: &str, words: &[&str]) -> bool
-    ensures { result ≡ has_program program.now words.now }
+    ensures { result ≡ list_any (λ word. ends_with nat_eq word.now program.now) words.now }
 {
     words
         .iter()
@@ -146,38 +147,24 @@ fn names_root(options: Options, text: &str) -> bool
     options.roots.iter().any(|root| *root == text)
 }
 
-/// Whether the user whom words name by a row is root. Who needs no option for another user is so where
-/// nobody is named.
-fn is_root(options: Options, row: Start, user: Option<&str>) -> bool
-    ensures { result ≡ is_root options row (text_in user.entry) }
+/// Who starts a daemon by what a row says, and the user whom words name by it. Who needs no option for another
+/// user starts it as root where nobody is named.
+fn starter_by<'a>(options: Options, row: Start, user: Option<&'a str>) -> Starter<'a>
+    ensures { plain_starter result ≡ starter_by options row (text_in user.entry) }
 {
-    match user {
+    let is_root = match user {
         Some(user) => names_root(options, user),
         None => row.option.is_empty(),
-    }
-}
-
-/// Who starts a daemon by what a row says, where root is named, or another user is.
-fn by_of(says: Says, is_root: bool) -> By
-    ensures { result ≡ by_of says is_root }
-{
-    match says {
-        Says::Namespace => By::InNamespace,
-        Says::Group => By::Another,
-        Says::Root => By::Root,
-        _ => { if is_root { By::Root } else { By::Another } }
-    }
-}
-
-/// The user, if words tell the name or the number.
-fn named_by<'a>(says: Says, user: Option<&'a str>) -> Option<&'a str>
-    ensures { text_in result ≡ named_by says (text_in user.entry) }
-{
-    match says {
-        Says::User => user,
-        Says::Root => Some("root"),
-        _ => None,
-    }
+    };
+    let by = if is_root { By::Root } else { By::Another };
+    let (by, user) = match row.says {
+        Says::Namespace => (By::InNamespace, None),
+        Says::Group => (By::Another, None),
+        Says::Root => (By::Root, Some("root")),
+        Says::Another => (by, None),
+        Says::User => (by, user),
+    };
+    Starter { by, user }
 }
 
 /// Who starts the daemon before whose word these words stand: the first row that speaks of them says it;
@@ -185,13 +172,8 @@ fn named_by<'a>(says: Says, user: Option<&'a str>) -> Option<&'a str>
 pub(crate) fn starter_of<'a>(options: Options, words: &[&'a str]) -> Starter<'a>
     ensures { IsStarter options words.now result }
 {
-    let Some(row) = row_of(options, words) else {
-        return ROOT;
-    };
-    let user = user_by(row, words);
-    let is_root = is_root(options, row, user);
-    Starter {
-        by: by_of(row.says, is_root),
-        user: named_by(row.says, user),
+    match row_of(options, words) {
+        Some(row) => starter_by(options, row, user_by(row, words)),
+        None => ROOT,
     }
 }

@@ -1,8 +1,8 @@
 //! What is wrong with parts that are each right: a word that is no option, and options that do not go
 //! together.
-ghost use Rattle.std.specs.Prelude.{◌≡◌, None, find, IsOk, IfErr};
+ghost use Rattle.std.specs.Prelude.{◌≡◌, None, IsOk, IfErr};
 ghost use Rattle.virtiofs_options.specs.Parts.{WrongOnly};
-ghost use Rattle.virtiofs_options.specs.Unknown.{AreRight, IsPartsFault, are_at_odds, has_any_of, is_fd, is_group, is_prints, is_socket, next_place, stray_at, stray_in};
+ghost use Rattle.virtiofs_options.specs.Unknown.{AreRight, IsPartsFault, are_at_odds, clash, clashes, next_place, stray_at, stray_in};
 
 use crate::command::Part;
 use crate::fault::{Fault, ReadError};
@@ -65,42 +65,28 @@ fn first_stray<'a>(parts: &[Part<'a>]) -> Option<&'a str>
     None
 }
 
-/// Whether a part says that the socket is open already.
-fn has_fd(parts: &[Part<'_>]) -> bool
-    ensures { result ≡ has_any_of is_fd parts.now }
+/// Whether two options of the socket do not go together.
+fn clash(one: Sets, other: Sets) -> bool
+    ensures { result ≡ clash one other }
 {
-    parts.iter().any(|part| matches!(part.sets(), Sets::Fd))
+    match (one, other) {
+        (Sets::Fd, Sets::Socket | Sets::Group) | (Sets::Group, Sets::Prints) => true,
+        _ => false,
+    }
 }
 
-/// Whether a part says that the socket is made somewhere.
-fn has_socket(parts: &[Part<'_>]) -> bool
-    ensures { result ≡ has_any_of is_socket parts.now }
+/// Whether a part does not go together with one of these.
+fn clashes(part: Part<'_>, parts: &[Part<'_>]) -> bool
+    ensures { result ≡ clashes part.entry parts.now }
 {
-    parts.iter().any(|part| matches!(part.sets(), Sets::Socket))
-}
-
-/// Whether a part says that the socket is a group's.
-fn has_group(parts: &[Part<'_>]) -> bool
-    ensures { result ≡ has_any_of is_group parts.now }
-{
-    parts.iter().any(|part| matches!(part.sets(), Sets::Group))
-}
-
-/// Whether a part says that the daemon says what it is able to do.
-fn has_prints(parts: &[Part<'_>]) -> bool
-    ensures { result ≡ has_any_of is_prints parts.now }
-{
-    parts.iter().any(|part| matches!(part.sets(), Sets::Prints))
+    parts.iter().any(|other| clash(part.sets(), other.sets()))
 }
 
 /// Whether there are options of the socket that do not go together.
 fn are_at_odds(parts: &[Part<'_>]) -> bool
     ensures { result ≡ are_at_odds parts.now }
 {
-    if has_fd(parts) && (has_socket(parts) || has_group(parts)) {
-        return true;
-    }
-    has_group(parts) && has_prints(parts)
+    parts.iter().any(|part| clashes(*part, parts))
 }
 
 /// Refuses parts of a command line of which one is wrong, or that are wrong together.

@@ -2,18 +2,16 @@
 //!
 //! A near miss of an option for ids or names is wrong, since an audit without that option would say
 //! too little, and so is what each daemon refuses. What else is not known is told.
-ghost use Rattle.std.specs.Prelude.{◌≡◌, ◌++◌, ◌∷◌, [], None, map, find, IsOk, IfOk, IfErr, OnOk, MatchOption, string_bytes};
-ghost use Rattle.std.specs.Option.{option_or};
-ghost use Rattle.virtiofs_options.specs.GuestOptions.{split_at_commas, text_in};
+ghost use Rattle.std.specs.Prelude.{◌≡◌, ◌++◌, ◌∷◌, [], None, map, find, IsOk, IfOk, IfErr, OnOk, string_bytes};
+ghost use Rattle.virtiofs_options.specs.GuestOptions.{split_at_commas};
 ghost use Rattle.virtiofs_options.specs.Parts.{WrongOnly};
-ghost use Rattle.virtiofs_options.specs.Unknown.{front_of, is_near, is_near_one, is_known_older, is_astray, is_refused, is_bad, is_own_name, is_faulty, FaultsIn, IsTextFault, HasPartFault, misses, unknown_words, told, unknown_of};
+ghost use Rattle.virtiofs_options.specs.Unknown.{front_of, is_near, is_near_one, is_own, is_faulty, FaultsIn, first_bad, HasTextFault, HasPartFault, misses, unknown_words, told, unknown_of};
 
 use crate::allowed::allows;
-use crate::cluster::stripped;
 use crate::command::{Part, key_of};
 use crate::fault::{Fault, ReadError, shown};
 use crate::line::concerns;
-use crate::older::older_of;
+use crate::older::{after, older_of};
 use crate::options::{Known, Options, Sets};
 use crate::whole::{follows, is_line};
 use std::alloc::{AllocError, Global};
@@ -91,84 +89,43 @@ fn is_near_one(alloc: Global, text: &str, known: &[Known]) -> Result<bool, Alloc
     Ok(false)
 }
 
-/// Whether a text is a part of `-o` that is known.
-fn is_known_older(options: Options, text: &str) -> bool
-    ensures { result ≡ is_known_older options text.now }
-{
-    older_of(options, text).is_some()
-}
-
-/// Whether a part of `-o` is not known, and is a near miss of one for names.
-fn is_astray(alloc: Global, options: Options, text: &str) -> Result<bool, AllocError>
-    ensures { IfOk result (λ astray. astray ≡ is_astray options text.now) }
-{
-    if is_known_older(options, text) {
-        return Ok(false);
-    }
-    is_near_one(alloc, key_of(text), options.older)
-}
-
-/// Whether the daemon refuses the value in a part of `-o`.
-fn is_refused(options: Options, text: &str) -> bool
-    ensures { result ≡ is_refused options text.now }
-{
-    let Some(row) = older_of(options, text) else {
-        return false;
-    };
-    match stripped(row.name, text) {
-        Some(value) => !allows(row.values, value),
-        None => false,
-    }
-}
-
-/// Whether a part of `-o` is wrong.
-fn is_bad(alloc: Global, options: Options, text: &str) -> Result<bool, AllocError>
-    ensures { IfOk result (λ bad. bad ≡ is_bad options text.now) }
-{
-    if is_astray(alloc, options, text)? {
-        return Ok(true);
-    }
-    Ok(is_refused(options, text))
-}
-
-/// The first wrong part of `-o`: the one so far, or else this text, if it is one.
-fn bad_or<'a>(
+/// What is wrong with a part of `-o`, if something is.
+fn text_fault<'a>(
     alloc: Global,
     options: Options,
-    first: Option<&'a str>,
     text: &'a str,
-) -> Result<Option<&'a str>, AllocError>
-    ensures { IfOk result (λ it. text_in it
-        ≡ option_or (text_in first.entry) (find (is_bad options) (text.now ∷ []))) }
+) -> Result<Option<Fault<'a>>, AllocError>
+    ensures { IfOk result (HasTextFault options (first_bad options (text.now ∷ []))) }
 {
-    if first.is_some() {
-        return Ok(first);
-    }
-    if is_bad(alloc, options, text)? {
-        return Ok(Some(text));
-    }
-    Ok(None)
+    let Some(row) = older_of(options, text) else {
+        let near = is_near_one(alloc, key_of(text), options.older)?;
+        return Ok(near.then_some(Fault::OlderUnknown(text)));
+    };
+    let refused = !allows(row.values, after(row.name, text));
+    Ok(refused.then_some(Fault::OlderRefused(text)))
 }
 
-/// The first part of a `-o` that is wrong.
-fn first_bad<'a>(
+/// What is wrong with the first part of a `-o` that is wrong.
+fn older_fault<'a>(
     alloc: Global,
     options: Options,
     value: &'a str,
-) -> Result<Option<&'a str>, AllocError>
-    ensures { IfOk result (λ text. text_in text
-        ≡ find (is_bad options) (split_at_commas value.now)) }
+) -> Result<Option<Fault<'a>>, AllocError>
+    ensures { IfOk result
+        (HasTextFault options (first_bad options (split_at_commas value.now))) }
 {
     let mut first = None;
     for text in value.split(',') {
-        first = bad_or(alloc, options, first, text)?;
+        if first.is_none() {
+            first = text_fault(alloc, options, text)?;
+        }
     }
     Ok(first)
 }
 
 /// Whether the name is that of an option of the program's own.
 fn is_own(options: Options, name: &str) -> bool
-    ensures { result ≡ is_own_name options name.now }
+    ensures { result ≡ is_own options name.now }
 {
     options.own.iter().any(|own| own.name == name)
 }
@@ -192,24 +149,6 @@ fn stray_fault<'a>(
         return Ok(Some(Fault::Miss(name)));
     }
     Ok(None)
-}
-
-/// What is wrong with the parts of a `-o`.
-fn older_fault<'a>(
-    alloc: Global,
-    options: Options,
-    value: &'a str,
-) -> Result<Option<Fault<'a>>, AllocError>
-    ensures { IfOk result (λ fault. MatchOption fault
-        (find (is_bad options) (split_at_commas value.now) ≡ None) (IsTextFault options value.now)) }
-{
-    let Some(text) = first_bad(alloc, options, value)? else {
-        return Ok(None);
-    };
-    if is_astray(alloc, options, text)? {
-        return Ok(Some(Fault::OlderUnknown(text)));
-    }
-    Ok(Some(Fault::OlderRefused(text)))
 }
 
 /// What is wrong with an option that has a value.
@@ -278,7 +217,7 @@ fn push_older_word<'a>(
     ensures { OnOk result (map told unknown.new.items
         ≡ map told unknown.old.items ++ unknown_words options guest (word.now ∷ [])) }
 {
-    if is_known_older(options, word) {
+    if older_of(options, word).is_some() {
         return Ok(());
     }
     unknown.push(UnknownWord {

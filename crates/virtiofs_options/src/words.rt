@@ -1,24 +1,22 @@
 //! The program's words: what is asked for, and the guests.
 
-ghost use Rattle.std.specs.Prelude.{◌≡◌, ◌≤◌, length, IfOk, IfErr};
-ghost use Rattle.virtiofs_options.specs.Lines.{first_end};
+ghost use Rattle.std.specs.Prelude.{◌≡◌, IfOk, IfErr};
 ghost use Rattle.virtiofs_options.specs.Parts.{WrongOnly};
-ghost use Rattle.virtiofs_options.specs.Words.{IsFront, HasFrontFault, belongs, front_fault, start_after, names_processes, IsAudit, IsAuditFault, AreWords, AreWrongWords};
+ghost use Rattle.virtiofs_options.specs.Words.{IsFront, HasFrontFault, belongs, front_fault, rest_of, names_processes, IsAudit, IsAuditFault, AreWords, AreWrongWords};
 
 use crate::cluster::split_words;
-use crate::command::{is_option, known_of};
+use crate::command::{Word, is_option, known_of};
 use crate::fault::{Fault, ReadError};
 use crate::front::{Asked, asked_of, telling_of};
 use crate::guest::Guest;
 use crate::guests::{Guests, read_guests};
 use crate::help::Telling;
-use crate::line::{first_daemon, first_end, line_of, tail_of};
+use crate::line::{after_line, first_daemon, line_of, tail_of};
 use crate::options::Options;
 use crate::parts::read_parts;
 use crate::starter::ROOT;
 use crate::values::{Values, values_of};
 use crate::whole::is_line;
-use crate::word::Word;
 use std::alloc::Global;
 
 /// What the words before the first `--` come to.
@@ -46,7 +44,7 @@ fn read_front<'a>(
     let asked = asked_of(parts.as_slice())?;
     let values = values_of(alloc, parts.as_slice())?;
     let mut guest = Guest::new(alloc);
-    guest.take_parts(options, parts.as_slice(), ROOT)?;
+    guest.take_parts(alloc, options, parts.as_slice(), ROOT)?;
     Ok(Front::Audit(asked, values, guest))
 }
 
@@ -72,15 +70,14 @@ fn front_fault<'a>(options: Options, words: &[&str], fault: Fault<'a>) -> Fault<
     }
 }
 
-/// Where the words after the first `--` begin. Without a `--`, there are none.
-fn rest_start(words: &[&str]) -> usize
-    ensures start { result ≡ start_after words.now (first_end words.now) }
-    ensures within { result ≤ length words.now }
+/// The words after the first `--`. Without a `--`, there are none.
+fn rest_of<'w, 'a>(words: &'w [&'a str]) -> &'w [&'a str]
+    ensures { result.now ≡ rest_of words.now }
 {
-    match first_end(words) {
-        Some(end) => end + 1,
-        None => words.len(),
-    }
+    let Some(rest) = after_line(words) else {
+        return tail_of(words, words.len());
+    };
+    rest
 }
 
 /// Whether processes are named, or those that run are asked for, and no command line.
@@ -148,8 +145,7 @@ pub fn read_words<'a>(
     let front = split_words(alloc, of_daemon, line_of(words))?;
     match read_front(alloc, own, front.as_slice()) {
         Ok(Front::Audit(asked, values, first)) => {
-            let rest = tail_of(words, rest_start(words));
-            audit_of(alloc, of_daemon, asked, values, rest, first)
+            audit_of(alloc, of_daemon, asked, values, rest_of(words), first)
         }
         Ok(Front::Tell(telling)) => Ok(Words::Tell(telling)),
         Err(ReadError::Wrong(fault)) => {

@@ -19,27 +19,15 @@ use virtiofs_map::idmap::UidMap;
 use virtiofs_map::soft_idmap::{Direction, Entry, entry_of};
 
 /// Which parts of the options are mended.
-#[derive(Clone, Copy)]
-pub(super) struct Parts {
-    ids: bool,
-    names: bool,
+#[derive(Clone, Copy, PartialEq, Eq)]
+pub(super) enum Parts {
+    Both,
+    Ids,
+    Names,
 }
 
-/// What is tried: all parts together, and then each by itself.
-pub(super) const PARTS: [Parts; 3] = [
-    Parts {
-        ids: true,
-        names: true,
-    },
-    Parts {
-        ids: true,
-        names: false,
-    },
-    Parts {
-        ids: false,
-        names: true,
-    },
-];
+/// What is tried: both parts together, and then each by itself.
+pub(super) const PARTS: [Parts; 3] = [Parts::Both, Parts::Ids, Parts::Names];
 
 /// Which ids are forbidden.
 #[derive(Clone, Copy)]
@@ -231,7 +219,7 @@ pub(super) fn mended_options<A: Allocator + Copy>(
         rules: None,
         keeps_acl,
     };
-    if parts.ids && (!keeps_acl || set.acl_refused || set.acl_untranslated) {
+    if parts != Parts::Names && (!keeps_acl || set.acl_refused || set.acl_untranslated) {
         let (users, groups) = (IdKind::Users, IdKind::Groups);
         options.translate_uid = mended_texts(
             alloc, unwanted, accepted, number, users, &set.users, found,
@@ -247,7 +235,7 @@ pub(super) fn mended_options<A: Allocator + Copy>(
         )?;
     }
     if let Some(names) = &set.names
-        && parts.names
+        && parts != Parts::Ids
     {
         let has = |kind: Kind| counts(accepted, number, found, &[kind], None);
         let (idle, no_rule) = (has(Kind::IdleRule), has(Kind::NoRule));

@@ -19,7 +19,8 @@ pub const OVERFLOW_ID: u32 = 65534;
 /// What the specifications or the ranges make of an id.
 #[derive(Clone, Copy)]
 pub struct Layer {
-    /// The place, counted from 0, of the one that decides; `None` if none has the id.
+    /// The place, counted from 0, of the one that decides, among the specifications of the map or in the
+    /// `ranges` of the set-up; `None` if none has the id.
     pub place: Option<usize>,
     /// What the id becomes; `None` if it becomes nothing.
     pub becomes: Option<u32>,

@@ -1,7 +1,7 @@
 //! The user namespace that a daemon runs in: its ranges.
 ghost use Rattle.std.specs.Prelude.{◌≡◌, ◌↔◌, ◌+◌, ◌-◌, ◌++◌, ◌<◌, ◌^◌, All, IfOk, IsTrue, OnOk, find, option_map};
 ghost use Rattle.virtiofs_findings.specs.RangeParts.{AgreeAround};
-ghost use Rattle.virtiofs_findings.specs.Ranges.{own_of, said_own, is_own, is_alone, shown_of, is_host, but_host, set_up_ranges, ranges_of_all, ranges_of, as_taken, taken, has, has_outside, some_has, some_has_outside, is_outside, if_some, below_overflow, above_overflow, but_overflow, acting_ranges, outside_of, AreSame, Differ};
+ghost use Rattle.virtiofs_findings.specs.Ranges.{own_of, said_own, is_own, is_alone, shown_of, is_host, but_host, set_up_ranges, mapped_ranges, ranges_of, as_taken, taken, has, has_outside, some_has, some_has_outside, is_outside, if_some, below_overflow, above_overflow, but_overflow, acting_ranges, outside_of, AreSame, Differ};
 
 use crate::explain::ids::OVERFLOW_ID;
 use crate::ids::ranges::MOST_RANGES;
@@ -9,17 +9,7 @@ use std::alloc::{AllocError, Allocator};
 use virtiofs_host::runner::Bounds;
 use virtiofs_map::idmap::UidMap;
 
-/// The id that a daemon runs as: root, where nothing else is said.
-pub(crate) fn own_of<A: Allocator>(bounds: Option<&Bounds<A>>) -> u32
-    ensures { result ≡ own_of (option_map (λ it. it.now) bounds.entry) }
-{
-    match bounds {
-        Some(bounds) => bounds.own,
-        None => 0,
-    }
-}
-
-/// The same, if it is said.
+/// The id that a daemon runs as, if it is said.
 pub(crate) fn said_own<A: Allocator>(bounds: Option<&Bounds<A>>) -> Option<u32>
     ensures { result ≡ said_own (option_map (λ it. it.now) bounds.entry) }
 {
@@ -29,7 +19,14 @@ pub(crate) fn said_own<A: Allocator>(bounds: Option<&Bounds<A>>) -> Option<u32>
     }
 }
 
-/// Whether a daemon can act as that one alone, where no namespace has others.
+/// The id that a daemon runs as: root, where nothing else is said.
+pub(crate) fn own_of<A: Allocator>(bounds: Option<&Bounds<A>>) -> u32
+    ensures { result ≡ own_of (option_map (λ it. it.now) bounds.entry) }
+{
+    said_own(bounds).unwrap_or(0)
+}
+
+/// Whether a daemon can act as the id that it runs as alone, where no namespace has others.
 fn is_alone<A: Allocator>(bounds: Option<&Bounds<A>>) -> bool
     ensures { result ≡ is_alone (option_map (λ it. it.now) bounds.entry) }
 {
@@ -68,39 +65,25 @@ fn but_host(ranges: &[UidMap]) -> &[UidMap]
     }
 }
 
-/// The same range.
-fn copy_of(range: &UidMap) -> UidMap
-    ensures { result ≡ range.now }
-{
-    UidMap {
-        inside_uid: range.inside_uid,
-        outside_uid: range.outside_uid,
-        count: range.count,
-    }
-}
-
 /// The same ranges.
 fn copied<A: Allocator>(alloc: A, ranges: &[UidMap]) -> Result<Vec<UidMap, A>, AllocError>
     ensures { IfOk result (λ all. all.items ≡ ranges.now) }
 {
     let mut all = Vec::new(alloc);
-    for range in ranges {
-        all.push(copy_of(range))?;
-    }
+    VecCloneMethods::extend_from_slice(&mut all, ranges)?;
     Ok(all)
 }
 
-/// The ranges that a daemon sets up: those of its options, or else, where it sets up a namespace, the
-/// id that it runs as.
+/// The ranges of the options; where there are none, the id that the daemon runs as, if it acts as that alone.
 fn set_up_ranges<A: Allocator>(
     alloc: A,
-    sets_up: bool,
+    own_alone: bool,
     own: u32,
     written: &[UidMap],
 ) -> Result<Vec<UidMap, A>, AllocError>
-    ensures { IfOk result (λ ranges. ranges.items ≡ set_up_ranges sets_up own written.now) }
+    ensures { IfOk result (λ ranges. ranges.items ≡ set_up_ranges own_alone own written.now) }
 {
-    if !written.is_empty() || !sets_up {
+    if !written.is_empty() || !own_alone {
         return copied(alloc, written);
     }
     let alone = UidMap {
@@ -152,21 +135,21 @@ pub(crate) fn taken<A: Allocator>(
     Ok(ranges)
 }
 
-/// Those that the kernel shows, but in the namespace of the host, of who can act as one id alone, that id;
-/// or else those that the daemon sets up.
-fn ranges_of_all<A: Allocator>(
+/// The ranges before 65534 is taken out: those that the kernel shows (of a process in the namespace of the
+/// host that acts as one id alone: that id), or else those that the daemon sets up.
+fn mapped_ranges<A: Allocator>(
     alloc: A,
     bounds: Option<&Bounds<A>>,
-    sets_up: bool,
+    own_alone: bool,
     written: &[UidMap],
 ) -> Result<Vec<UidMap, A>, AllocError>
     ensures { IfOk result (λ ranges. ranges.items
-        ≡ ranges_of_all (option_map (λ it. it.now) bounds.entry) sets_up written.now) }
+        ≡ mapped_ranges (option_map (λ it. it.now) bounds.entry) own_alone written.now) }
 {
     let own = own_of(bounds);
     match shown_of(bounds) {
         Some(shown) => set_up_ranges(alloc, is_alone(bounds), own, but_host(shown)),
-        None => set_up_ranges(alloc, sets_up, own, written),
+        None => set_up_ranges(alloc, own_alone, own, written),
     }
 }
 
@@ -256,7 +239,7 @@ fn push_but_overflow<A: Allocator>(
     ensures { OnOk result (ranges.new.items ≡ ranges.old.items ++ but_overflow range.now) }
 {
     if !has(range, u64::from(OVERFLOW_ID)) {
-        ranges.push(copy_of(range))?;
+        ranges.push(range.clone()?)?;
         return Ok(());
     }
     ranges.push(below_overflow(range))?;
@@ -287,13 +270,13 @@ fn acting_ranges<A: Allocator>(
 pub(crate) fn ranges_of<A: Allocator + Copy>(
     alloc: A,
     bounds: Option<&Bounds<A>>,
-    sets_up: bool,
+    own_alone: bool,
     written: &[UidMap],
 ) -> Result<Vec<UidMap, A>, AllocError>
     ensures { IfOk result (λ ranges. ranges.items
-        ≡ ranges_of (option_map (λ it. it.now) bounds.entry) sets_up written.now) }
+        ≡ ranges_of (option_map (λ it. it.now) bounds.entry) own_alone written.now) }
 {
-    let all = ranges_of_all(alloc, bounds, sets_up, written)?;
+    let all = mapped_ranges(alloc, bounds, own_alone, written)?;
     acting_ranges(alloc, said_own(bounds), all)
 }
 
@@ -343,12 +326,9 @@ fn agree_around(shown: &[UidMap], written: &[UidMap], range: &UidMap) -> bool
 fn agree_around_all(shown: &[UidMap], written: &[UidMap], ranges: &[UidMap]) -> bool
     ensures { IsTrue result ↔ All (AgreeAround shown.now written.now) ranges.now }
 {
-    for range in ranges {
-        if !agree_around(shown, written, range) {
-            return false;
-        }
-    }
-    true
+    ranges
+        .iter()
+        .all(|range| agree_around(shown, written, range))
 }
 
 /// Whether the ranges of the options mean the same as those that the kernel shows. Between two ids around

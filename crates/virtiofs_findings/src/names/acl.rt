@@ -1,7 +1,7 @@
 //! Access control lists whose attributes the rules pass under other names.
 ghost use Rattle.std.specs.Prelude.{IfOk, OnOk, ◌≡◌};
 ghost use Rattle.virtiofs_findings.specs.AclNames.{acl_bytes, FindsRenamed, FindsAclName, FindsAclNames};
-ghost use Rattle.virtiofs_findings.specs.AclParts.{IsOther};
+ghost use Rattle.virtiofs_findings.specs.NameParts.{IsOther};
 ghost use Rattle.virtiofs_findings.specs.Lists.{Adds};
 
 use crate::finding::{Evidence, Finding, Kind};

@@ -1,5 +1,5 @@
 //! What is decided of all names of a guest.
-ghost use Rattle.std.specs.Prelude.{◌≡◌, ◌<◌, ◌↔◌, codes, IfOk, OnOk, IsTrue};
+ghost use Rattle.std.specs.Prelude.{◌≡◌, ◌<◌, ◌↔◌, IfOk, OnOk, IsTrue};
 ghost use Rattle.virtiofs_map.specs.Audit.{AnswersLeast, HasFault, Within};
 ghost use Rattle.virtiofs_findings.specs.Lists.{Adds};
 ghost use Rattle.virtiofs_findings.specs.NameFindings.{FindsName, FindsLeast, DecidesWritten, FindsIdle, FindsUnruled, FindsNames, name_found};
@@ -11,36 +11,6 @@ use crate::report::push_of_guest;
 use std::alloc::{AllocError, Allocator};
 use virtiofs_map::audit::{Audit, NameFault, ask};
 use virtiofs_map::xattrmap::{XattrMap, XattrName};
-
-/// The beginning of names that users set.
-fn user() -> XattrName<'static>
-    ensures { result.bytes.now ≡ codes "user." }
-{
-    XattrName { bytes: b"user." }
-}
-
-/// The beginning of names that only a trusted process sees.
-fn trusted() -> XattrName<'static>
-    ensures { result.bytes.now ≡ codes "trusted." }
-{
-    XattrName { bytes: b"trusted." }
-}
-
-/// The beginning of names that security modules set.
-fn security() -> XattrName<'static>
-    ensures { result.bytes.now ≡ codes "security." }
-{
-    XattrName {
-        bytes: b"security.",
-    }
-}
-
-/// The beginning of names that the kernel sets, as those of access control lists.
-fn system() -> XattrName<'static>
-    ensures { result.bytes.now ≡ codes "system." }
-{
-    XattrName { bytes: b"system." }
-}
 
 /// The least name with a fault.
 fn least<A: Allocator + Copy>(
@@ -82,16 +52,18 @@ pub(crate) fn least_name<A: Allocator + Copy>(
     let Audit::No(name) = least(alloc, fault, map, other)? else {
         return Ok(None);
     };
-    let user = least_within(alloc, fault, map, other, user())?;
-    let trusted = least_within(alloc, fault, map, other, trusted())?;
-    let security = least_within(alloc, fault, map, other, security())?;
-    let system = least_within(alloc, fault, map, other, system())?;
+    let user = XattrName { bytes: b"user." };
+    let trusted = XattrName { bytes: b"trusted." };
+    let security = XattrName {
+        bytes: b"security.",
+    };
+    let system = XattrName { bytes: b"system." };
     Ok(Some(LeastName {
         name,
-        user,
-        trusted,
-        security,
-        system,
+        user: least_within(alloc, fault, map, other, user)?,
+        trusted: least_within(alloc, fault, map, other, trusted)?,
+        security: least_within(alloc, fault, map, other, security)?,
+        system: least_within(alloc, fault, map, other, system)?,
     }))
 }
 

@@ -174,17 +174,14 @@ module _ (specs cut forbids : List IdMap) (bad_host : ℕ → Type 0) (spans : L
   )
 
   -- so it becomes what it became
-  stays_becomes : (direction : Direction) (n : ℕ) (value : Option ℕ) → Stays (Hold spans) direction n
-      → ((other : Option ℕ) → ¬ Listed forbids direction n other) → Becomes specs direction n value
-      → Becomes (cut ++ forbids) direction n value
-  stays_becomes direction n value stays none = search (rules, Becomes-same, same)
-
-  becomes_stays : (direction : Direction) (n : ℕ) (value : Option ℕ) → Stays (Hold spans) direction n
-      → ((other : Option ℕ) → ¬ Listed forbids direction n other) → Becomes (cut ++ forbids) direction n value
-      → Becomes specs direction n value
-  becomes_stays direction n value stays none =
-      Becomes-same (cut ++ forbids) specs direction n value
-      (λ other. let is = same direction n stays none other in (is.1, is.0))
+  becomes_same : (direction : Direction) (n : ℕ) (value : Option ℕ) → Stays (Hold spans) direction n
+      → ((other : Option ℕ) → ¬ Listed forbids direction n other)
+      → Becomes (cut ++ forbids) direction n value ↔ Becomes specs direction n value
+  becomes_same direction n value stays none = (
+    Becomes-same (cut ++ forbids) specs direction n value
+        (λ other. let is = same direction n stays none other in (is.1, is.0)),
+    Becomes-same specs (cut ++ forbids) direction n value (same direction n stays none),
+  )
 
   not_forbidden : (n : ℕ) → ¬ Hold spans n → (other : Option ℕ) → ¬ Listed forbids GuestToHost n other
   not_forbidden n not other listed = not (forbidden_bad n other listed)
@@ -211,7 +208,7 @@ module _ (specs cut forbids : List IdMap) (bad_host : ℕ → Type 0) (spans : L
     by (inr not) =
         is_good n host (record {
           is_id = goes.is_id;
-          becomes = becomes_stays GuestToHost n (Some host) not (not_forbidden n not) goes.becomes;
+          becomes = (becomes_same GuestToHost n (Some host) not (not_forbidden n not)).0 goes.becomes;
         }) not
 
   pub Mends-cut : Mends specs bad_host (cut ++ forbids)
@@ -220,29 +217,24 @@ module _ (specs cut forbids : List IdMap) (bad_host : ℕ → Type 0) (spans : L
     forbids = λ guest. elim (held_or_not spans guest) [
       | inl is ↦ (λ becomes. inr ((found guest).0 is), λ either. bad_becomes guest is)
       | inr not ↦ (
-        λ becomes. inl (becomes_stays GuestToHost guest None not (not_forbidden guest not) becomes),
+        λ becomes. inl ((becomes_same GuestToHost guest None not (not_forbidden guest not)).0 becomes),
         λ either. elim either [
-          | inl becomes ↦ stays_becomes GuestToHost guest None not (not_forbidden guest not) becomes
+          | inl becomes ↦ (becomes_same GuestToHost guest None not (not_forbidden guest not)).1 becomes
           | inr is ↦ absurd (not_bad guest not is)
         ],
       )
     ];
     keeps = λ guest value not_bad.
-        (let not : ¬ Hold spans guest = λ is. not_bad ((found guest).0 is) in (
-          becomes_stays GuestToHost guest value not (not_forbidden guest not),
-          stays_becomes GuestToHost guest value not (not_forbidden guest not),
-        ));
-    leaves = λ host value. (
-      becomes_stays HostToGuest host value tt (forbid.host host),
-      stays_becomes HostToGuest host value tt (forbid.host host),
-    );
+        (let not : ¬ Hold spans guest = λ is. not_bad ((found guest).0 is) in
+        becomes_same GuestToHost guest value not (not_forbidden guest not));
+    leaves = λ host value. becomes_same HostToGuest host value tt (forbid.host host);
   }
 
   -- ---- what follows
 
   pub ComesBack-cut : ComesBack (cut ++ forbids)
   ComesBack-cut n host goes =
-      stays_becomes HostToGuest host (Some n) tt (forbid.host host) (good_of n host goes).0
+      (becomes_same HostToGuest host (Some n) tt (forbid.host host)).1 (good_of n host goes).0
 
   pub IsAlone-cut : IsAlone (cut ++ forbids)
   IsAlone-cut n other host goes other_goes =

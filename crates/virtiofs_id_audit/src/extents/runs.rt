@@ -1,16 +1,14 @@
 //! Neighbouring ids of the guest that are all sought, or of which none is.
 ghost use Rattle.std.specs.Prelude.{◌≡◌, ◌<◌, ◌≤◌};
 ghost use Rattle.std.specs.List.Sorted.{IsNonDecreasing};
-ghost use Rattle.virtiofs_id_audit.specs.ExtentParts.{IsSought, IsRun, AreStarts, BecomesOne};
+ghost use Rattle.virtiofs_id_audit.specs.ExtentParts.{IsSought, of_bad, IsRun, AreStarts, BecomesOne};
 ghost use Rattle.virtiofs_id_audit.specs.IdAudit.{IsAstray, GoesInto};
 ghost use Rattle.virtiofs_id_audit.specs.IdAuditParts.{Hold, AreInOrder, IsMoved};
-ghost use Rattle.virtiofs_id_audit.specs.Mending.{IsBad};
-ghost use Rattle.virtiofs_id_audit.specs.declared.extents.runs.Sought.TheVariants.{OnlyAstray};
 ghost use Rattle.virtiofs_map.specs.Pieces.{IsNamed};
 
 use crate::extents::starts::next_start;
 use crate::round_trips::round_trip;
-use crate::spans::Span;
+use crate::spans::{Span, first_from};
 use std::alloc::Allocator;
 use virtiofs_map::id_types::{GuestId, HostId};
 use virtiofs_map::soft_idmap::{Direction, IdMap, Outcome, Piece};
@@ -43,8 +41,7 @@ fn run_in(spans: &[Span], id: u32) -> Run
     requires { AreInOrder spans.now }
     ensures { IsRun (Hold spans.now) id 4294967295 result }
 {
-    let at = spans.partition_point(|span| span.last < id);
-    let Some(span) = spans.get(at) else {
+    let Some(span) = first_from(spans, id) else {
         return Run {
             last: u32::MAX,
             all: false,
@@ -150,12 +147,15 @@ fn run_astray<Guest: GuestId<HostType = Host>, Host: HostId<GuestType = Guest>, 
     }
 }
 
-/// The ids of the guest from `n` on, as far as they are found to be all bad, or none of them.
+/// The ids of the guest from `n` on, as far as they are found to be all bad, or none of them; or else
+/// all astray and to become no id of the spans, or none of them.
 ///
-/// It does not ask what ids become that do not come back. So there are few runs, however many
-/// ranges of the guest lead to the ids of the spans.
-fn run_bad<Guest: GuestId<HostType = Host>, Host: HostId<GuestType = Guest>, A: Allocator>(
+/// It does not ask what ids become where that is known without it: that they do not come back says
+/// that they are bad. So there are few runs, however many ranges of the guest lead to the ids of the
+/// spans.
+fn run_astray_or<Guest: GuestId<HostType = Host>, Host: HostId<GuestType = Guest>, A: Allocator>(
     map: &IdMap<Guest, Host, A>,
+    bad: bool,
     n: u32,
     starts: &[u32],
     hosts: &[Span],
@@ -164,41 +164,16 @@ fn run_bad<Guest: GuestId<HostType = Host>, Host: HostId<GuestType = Guest>, A: 
     requires order { IsNonDecreasing starts.now }
     requires starts { AreStarts map.now starts.now }
     requires spans { AreInOrder hosts.now }
-    ensures { IsRun (IsBad map.now (Hold hosts.now)) n 4294967294 result }
+    ensures { IsRun (IsSought (of_bad bad) map.now (Hold hosts.now)) n 4294967294 result }
 {
     let astray = run_astray(map, n, starts);
-    if astray.all {
+    if astray.all == bad {
         return astray;
     }
     let into = run_into(map, n, hosts);
     Run {
         last: astray.last.min(into.last),
-        all: into.all,
-    }
-}
-
-/// The ids of the guest from `n` on, as far as they are found to be all astray and to become no id
-/// of the spans, or none of them.
-fn run_only_astray<Guest: GuestId<HostType = Host>, Host: HostId<GuestType = Guest>, A: Allocator>(
-    map: &IdMap<Guest, Host, A>,
-    n: u32,
-    starts: &[u32],
-    hosts: &[Span],
-) -> Run
-    requires is_id { n < 4294967295 }
-    requires order { IsNonDecreasing starts.now }
-    requires starts { AreStarts map.now starts.now }
-    requires spans { AreInOrder hosts.now }
-    ensures { IsRun (IsSought OnlyAstray map.now (Hold hosts.now)) n 4294967294 result }
-{
-    let astray = run_astray(map, n, starts);
-    if !astray.all {
-        return astray;
-    }
-    let into = run_into(map, n, hosts);
-    Run {
-        last: astray.last.min(into.last),
-        all: !into.all,
+        all: into.all == bad,
     }
 }
 
@@ -216,7 +191,7 @@ pub(crate) fn run_of<
 {
     match sought {
         Sought::Into => run_into(map, n, hosts),
-        Sought::OnlyAstray => run_only_astray(map, n, starts, hosts),
-        Sought::Bad => run_bad(map, n, starts, hosts),
+        Sought::OnlyAstray => run_astray_or(map, false, n, starts, hosts),
+        Sought::Bad => run_astray_or(map, true, n, starts, hosts),
     }
 }

@@ -1,21 +1,22 @@
--- Each name that an audit has to try is made of what was gathered from the rules.
-use Rattle.std.proofs.Common.{◌≡◌, ◌⊎◌, ℕ, ◌+◌, Bool, true, cond, List, [], ◌∷◌, ◌++◌, drop, Contains, Option, Some}
-use Rattle.std.proofs.Common.{None, inl, inr, sym, ap, ◌∙◌, append_assoc, append-nil, All, arith}
-use Rattle.std.specs.List.{cons_option, filter_map, flat_map, slice_get}
+-- What is gathered from the rules, and that each name that an audit has to try is made of it.
+use Rattle.std.proofs.Common.{◌≡◌, ◌⊎◌, ℕ, ◌+◌, ◌*◌, ◌≤◌, Bool, cond, List, [], ◌∷◌, ◌++◌, drop, length, Option, Some}
+use Rattle.std.proofs.Common.{None, inl, inr, refl, sym, subst, ap, ◌∙◌, append_assoc, append-nil, All, arith, ◌<◌}
+use Rattle.std.specs.List.{cons_option, count_by, filter_map, slice_get}
 use Rattle.std.specs.List.Sorted.{IsPermutation}
-use Rattle.std.specs.Option.{option_map_or, option_and_then}
 use Rattle.std.proofs.lemmas.List.{at_drop_more}
-use Rattle.std.proofs.lemmas.List.Elements.{Contains-append_right, Contains-append_cases}
-use Rattle.std.proofs.lemmas.List.Sorted.{Contains-permutation}
+use Rattle.std.proofs.lemmas.List.Sorted.{Contains-permutation, length_permutation}
+use Rattle.std.proofs.lemmas.List.Sums.{sum_by-cons}
+use Rattle.std.proofs.lemmas.Nat.{mul-le}
 use Rattle.std.proofs.lemmas.Option.{slice_get_within, get_or_from_slice_get}
-use Rattle.virtiofs_map.specs.AuditParts.{rest_after, rest_of, rests, guest_names, wholes, live_wholes, host_names}
-use Rattle.virtiofs_map.specs.AuditParts.{whole_of, is_cut, IsRest, IsWhole, one_byte_names}
-use Rattle.virtiofs_map.specs.GatheredParts.{added_prefix_of, part_of}
+use Rattle.virtiofs_map.specs.AuditParts.{TriedSoFar, Tries, none_tried, parts, LedTo, IsRest, IsLiveWhole, IsOneByte}
+use Rattle.virtiofs_map.specs.AuditParts.{IsTried, most_guest_names}
 use Rattle.virtiofs_map.specs.Rule.{MappingRule}
+use Rattle.virtiofs_map.specs.Steps.{count_after, CountsBetween}
 use Rattle.virtiofs_map.specs.declared.audit.gathered.Part.TheVariants.{Key, Added, Host}
 use Rattle.virtiofs_map.specs.declared.xattrmap.scopes.Side.{Side}
 use Rattle.virtiofs_map.specs.declared.xattrmap.scopes.Side.TheVariants.{Client, Server}
-use Rattle.virtiofs_map.proofs.AuditAlikeLemmas.{Member}
+use Rattle.virtiofs_map.proofs.AuditAlikeLemmas.{GuestTried, HostTried}
+use Rattle.virtiofs_map.proofs.audit.AuditLeastLemmas.{tries_join, tries_fewer}
 
 -- ---- gathering
 
@@ -56,141 +57,105 @@ gathered_none f rules i rule names end found here h e none =
     ap (λ xs. xs ++ filter_map f (drop (i + 1) rules)) (sym (append-nil names))
     ∙ gathered_more f rules i rule names end None here h (sym none ∙ e)
 
--- ---- elements of a list
+-- ---- how many are gathered
 
-pub contains_none : {X : Type 0} (x : X) → ¬ Contains [] x
-contains_none x (k, l, e) = omega arith
+one_or_none : (o : Option (List ℕ)) (n : ℕ) (names : List (List ℕ)) → length (cons_option o []) ≤ n
+    → length (cons_option o names) ≤ n + length names
+one_or_none o n names l = grind arith
 
-contains_one : {X : Type 0} (y x : X) → Contains (y ∷ []) x → y ≡ x
-contains_one y x e = grind arith
+length_gathered : (f : MappingRule → Option (List ℕ)) (p : MappingRule → Bool)
+    → ((rule : MappingRule) → length (cons_option (f rule) []) ≤ cond (p rule) 1 0) → (rules : List MappingRule)
+    → length (filter_map f rules) ≤ count_by p rules
+length_gathered f p few [] = omega arith
+length_gathered f p few (rule ∷ rules) =
+    omega (
+      arith,
+      one_or_none (f rule) (cond (p rule) 1 0) (filter_map f rules) (few rule),
+      length_gathered f p few rules,
+      sum_by-cons (λ rule. cond (p rule) 1 0) rule rules,
+    )
 
-contains_first : {X : Type 0} (o : Option X) (xs : List X) (x : X) → o ≡ Some x → Contains (cons_option o xs) x
-contains_first o xs x e = grind arith
+few_guest_names : (side : Side) (others rules : List MappingRule) (keys all_added patterns : List (List ℕ))
+    → IsPermutation (parts Key rules) keys → IsPermutation (parts (Added Client) rules) all_added
+    → IsPermutation (parts (Host side) others) patterns
+    → length keys + length all_added * length patterns + 255 ≤ most_guest_names side others rules
+few_guest_names side others rules keys all_added patterns are_keys are_added are_patterns =
+    grind (arith, length_gathered, length_permutation, mul-le)
 
-contains_later : {X : Type 0} (o : Option X) (xs : List X) (x : X) → Contains xs x → Contains (cons_option o xs) x
-contains_later None xs x c = c
-contains_later (Some y) xs x c = Contains-append_right (y ∷ []) xs x c
+-- ---- what was tried
 
-contains_option : {X : Type 0} (o : Option X) (xs : List X) (x : X) → Contains (cons_option o xs) x
-    → (o ≡ Some x) ⊎ Contains xs x
-contains_option o xs x c = grind (arith, Contains-append_cases, contains_one)
+-- the beginning, the first names, those that others lead to, and those of one byte
+tries_all : {Bad led : List ℕ → Type 0} {m n most : ℕ} (beginning : List ℕ) (firsts : List (List ℕ))
+    (start one two three end : TriedSoFar) → start ≡ none_tried → Tries Bad (λ name. name ≡ beginning) 0 start one
+    → Tries Bad (IsRest firsts []) m one two → Tries Bad led n two three → Tries Bad IsOneByte 255 three end
+    → m + n + 255 ≤ most → Tries Bad (IsTried beginning (λ name. IsRest firsts [] name ⊎ led name)) most none_tried end
+tries_all {Bad = Bad} {led = led} {m = m} {n = n} beginning firsts start one two three end e begun first then bytes
+    few =
+    let both : Tries Bad (λ name. IsRest firsts [] name ⊎ led name) (m + n) one three =
+    tries_join first then (λ name is. is) (omega arith) in
+    let more : Tries Bad (λ name. (IsRest firsts [] name ⊎ led name) ⊎ IsOneByte name) (m + n + 255) one end =
+    tries_join both bytes (λ name is. is) (omega arith) in
+    tries_join (subst (λ s. Tries Bad (λ name. name ≡ beginning) 0 s one) e begun) more (λ name is. is) (omega arith)
 
--- what is gathered from a rule of the list
-pub gathered_member : (f : MappingRule → Option (List ℕ)) (rule : MappingRule) (rules : List MappingRule)
-    (name : List ℕ) → Member rule rules → f rule ≡ Some name → Contains (filter_map f rules) name
-gathered_member f rule [] name m e = absurd m
-gathered_member f rule (one ∷ rules) name (inl same) e = grind arith
-gathered_member f rule (one ∷ rules) name (inr m) e =
-    contains_later (f one) (filter_map f rules) name (gathered_member f rule rules name m e)
+pub guest_tries : (Bad : List ℕ → Type 0) (side : Side) (rules others : List MappingRule) (beginning : List ℕ)
+    (keys all_added patterns : List (List ℕ)) (start one two three end : TriedSoFar) → start ≡ none_tried
+    → IsPermutation (parts Key rules) keys
+    → IsPermutation (parts (Added Client) rules) all_added → IsPermutation (parts (Host side) others) patterns
+    → Tries Bad (λ name. name ≡ beginning) 0 start one → Tries Bad (IsRest keys []) (length keys) one two
+    → Tries Bad (LedTo all_added (IsRest patterns)) (length all_added * length patterns) two three
+    → Tries Bad IsOneByte 255 three end
+    → Tries Bad (GuestTried side rules others beginning) (most_guest_names side others rules) none_tried end
+guest_tries Bad side rules others beginning keys all_added patterns start one two three end e are_keys are_added
+    are_patterns begun first then bytes =
+    tries_fewer
+    (tries_all beginning keys start one two three end e begun first then bytes
+    (few_guest_names side others rules keys all_added patterns are_keys are_added are_patterns))
+    (λ name is. elim is [
+      | inl same ↦ inl same
+      | inr (inl (inl key)) ↦ inr (inl (inl (name, Contains-permutation _ keys name are_keys key, refl)))
+      | inr (inl (inr (added, among, (pattern, within, split)))) ↦ inr (inl (inr (
+        added,
+        Contains-permutation _ all_added added are_added among,
+        (pattern, Contains-permutation _ patterns pattern are_patterns within, split),
+      )))
+      | inr (inr byte) ↦ inr (inr byte)
+    ])
+    (omega arith)
 
--- ---- the pattern of a rule, or what its added prefix leads to
+pub host_tries : (Bad : List ℕ → Type 0) (rules : List MappingRule) (beginning : List ℕ)
+    (prepends cuts keys : List (List ℕ)) (start one two three end : TriedSoFar) → start ≡ none_tried
+    → IsPermutation (parts (Host Server) rules) prepends → IsPermutation (parts (Added Server) rules) cuts
+    → IsPermutation (parts Key rules) keys → Tries Bad (λ name. name ≡ beginning) 0 start one
+    → Tries Bad (IsRest prepends []) (length prepends) one two
+    → Tries Bad (LedTo cuts (IsLiveWhole rules keys)) (length cuts * length keys) two three
+    → Tries Bad IsOneByte 255 three end
+    → Tries Bad (HostTried rules beginning) (length prepends + length cuts * length keys + 255) none_tried end
+host_tries Bad rules beginning prepends cuts keys start one two three end e are_prepends are_cuts are_keys begun first
+    then bytes =
+    let all : Tries Bad (IsTried beginning (λ name. IsRest prepends [] name ⊎ LedTo cuts (IsLiveWhole rules keys) name))
+    (length prepends + length cuts * length keys + 255) none_tried end =
+    tries_all beginning prepends start one two three end e begun first then bytes (omega arith) in
+    tries_fewer all
+    (λ name is. elim is [
+      | inl same ↦ inl same
+      | inr (inl (inl prepend)) ↦ inr (inl (inl (
+        name,
+        Contains-permutation _ prepends name are_prepends prepend,
+        refl,
+      )))
+      | inr (inl (inr (cut, among, (live, (key, within, whole))))) ↦ inr (inl (inr (
+        cut,
+        Contains-permutation _ cuts cut are_cuts among,
+        (live, (key, Contains-permutation _ keys key are_keys within, whole)),
+      )))
+      | inr (inr byte) ↦ inr (inr byte)
+    ])
+    (omega arith)
 
-abbrev Parts : (MappingRule → Bool) → (MappingRule → List ℕ) → (List ℕ → List (List ℕ)) → List MappingRule → List ℕ
-    → Type 0
-Parts on pattern more rules name =
-    Contains (filter_map (λ rule. cond (on rule) (Some (pattern rule)) None) rules) name
-    ⊎ ((added : List ℕ) × Contains (filter_map (λ rule. cond (on rule) (added_prefix_of rule) None) rules) added
-    × Contains (more added) name)
+-- ---- how many are counted
 
-one_rule : (more : List ℕ → List (List ℕ)) (on : Bool) (pattern : List ℕ) (o : Option (List ℕ)) (name : List ℕ)
-    → Contains (cond on (pattern ∷ option_map_or more o []) []) name
-    → (cond on (Some pattern) None ≡ Some name)
-    ⊎ ((added : List ℕ) × (cond on o None ≡ Some added) × Contains (more added) name)
-one_rule more on pattern o name c = grind (arith, contains_one, Contains-append_cases, contains_none)
-
-parts_of : (on : MappingRule → Bool) (pattern : MappingRule → List ℕ) (more : List ℕ → List (List ℕ))
-    (rules : List MappingRule) (name : List ℕ)
-    → Contains (flat_map (λ rule. cond (on rule) (pattern rule ∷ option_map_or more (added_prefix_of rule) []) []) rules) name
-    → Parts on pattern more rules name
-parts_of on pattern more [] name c = absurd (contains_none name c)
-parts_of on pattern more (rule ∷ rules) name c =
-    let names : MappingRule → List (List ℕ) =
-    λ rule. cond (on rule) (pattern rule ∷ option_map_or more (added_prefix_of rule) []) [] in
-    let keys = filter_map (λ rule. cond (on rule) (Some (pattern rule)) None) rules in
-    let all_added = filter_map (λ rule. cond (on rule) (added_prefix_of rule) None) rules in
-    elim (Contains-append_cases (names rule) (flat_map names rules) name c) [
-      | inl mine ↦ grind (arith, one_rule, contains_first)
-      | inr others ↦ grind (arith, parts_of on pattern more rules name others, contains_later)
-    ]
-
--- ---- names of the guest
-
-rest_where : (added : List ℕ) (on : Bool) (o : Option (List ℕ)) (name : List ℕ)
-    → cond on (option_and_then (rest_after added) o) None ≡ Some name
-    → (pattern : List ℕ) × (cond on o None ≡ Some pattern) × (rest_after added pattern ≡ Some name)
-rest_where added on o name e = grind arith
-
-rests_parts : (side : Side) (others : List MappingRule) (added name : List ℕ) → Contains (rests side others added) name
-    → (pattern : List ℕ) × Contains (filter_map (part_of (Host side)) others) pattern
-    × (rest_after added pattern ≡ Some name)
-rests_parts side [] added name c = absurd (contains_none name c)
-rests_parts side (rule ∷ others) added name c =
-    elim (contains_option (rest_of side added rule) (rests side others added) name c) [
-      | inl mine ↦
-          grind (arith, rest_where)
-      | inr more ↦
-          grind (arith, rests_parts side others added name more, contains_later)
-    ]
-
-pub guest_cover : (side : Side) (others rules : List MappingRule) (keys all_added patterns : List (List ℕ))
-    → IsPermutation (filter_map (part_of Key) rules) keys
-    → IsPermutation (filter_map (part_of (Added Client)) rules) all_added
-    → IsPermutation (filter_map (part_of (Host side)) others) patterns
-    → (name : List ℕ) → Contains (guest_names side others rules ++ one_byte_names) name
-    → (Contains keys name ⊎ IsRest all_added patterns name) ⊎ Contains one_byte_names name
-guest_cover side others rules keys all_added patterns are_keys are_added are_patterns name c =
-    elim (Contains-append_cases (guest_names side others rules) one_byte_names name c) [
-      | inr byte ↦ inr byte
-      | inl one ↦ inl
-          (elim
-          (parts_of (λ rule. rule.client) (λ rule. rule.key) (rests side others) rules name one) [
-            | inl key ↦ inl (search Contains-permutation)
-            | inr led ↦ inr
-                (let (pattern, among, rest) = rests_parts side others led.0 name led.2 in (
-                  led.0,
-                  Contains-permutation (filter_map (part_of (Added Client)) rules) all_added led.0 are_added led.1,
-                  (search Contains-permutation),
-                ))
-          ])
-    ]
-
--- ---- names of the host
-
-live : (on : Bool) (names : List (List ℕ)) (name : List ℕ) → Contains (cond on names []) name
-    → (on ≡ true) × Contains names name
-live on names name c = grind (arith, contains_none)
-
-whole_where : (cut : List ℕ) (on : Bool) (key name : List ℕ) → cond on (Some (cut ++ key)) None ≡ Some name
-    → (cond on (Some key) None ≡ Some key) × (name ≡ cut ++ key)
-whole_where cut on key name e = grind arith
-
-wholes_parts : (others : List MappingRule) (cut name : List ℕ) → Contains (wholes others cut) name
-    → (key : List ℕ) × Contains (filter_map (part_of Key) others) key × (name ≡ cut ++ key)
-wholes_parts [] cut name c = absurd (contains_none name c)
-wholes_parts (rule ∷ others) cut name c =
-    elim (contains_option (whole_of cut rule) (wholes others cut) name c) [
-      | inl mine ↦
-          grind (arith, whole_where)
-      | inr more ↦
-          grind (arith, wholes_parts others cut name more, contains_later)
-    ]
-
-pub host_cover : (rules : List MappingRule) (prepends cuts keys : List (List ℕ))
-    → IsPermutation (filter_map (part_of (Host Server)) rules) prepends
-    → IsPermutation (filter_map (part_of (Added Server)) rules) cuts
-    → IsPermutation (filter_map (part_of Key) rules) keys
-    → (name : List ℕ) → Contains (host_names rules rules ++ one_byte_names) name
-    → (Contains prepends name ⊎ IsWhole rules cuts keys name) ⊎ Contains one_byte_names name
-host_cover rules prepends cuts keys are_prepends are_cuts are_keys name c =
-    elim (Contains-append_cases (host_names rules rules) one_byte_names name c) [
-      | inr byte ↦ inr byte
-      | inl one ↦ inl
-          (elim
-          (parts_of (λ rule. rule.server) (λ rule. rule.prepend) (live_wholes rules rules) rules name one) [
-            | inl prepend ↦ inl
-                (search Contains-permutation)
-            | inr led ↦ inr
-                (let (on, whole) = live (is_cut rules led.0) (wholes rules led.0) name led.2 in
-                let (key, among, is) = wholes_parts rules led.0 name whole in (search Contains-permutation))
-          ])
-    ]
+pub counts_between : (Bad tried : List ℕ → Type 0) (most : ℕ) (end : TriedSoFar) (before now : ℕ)
+    → Tries Bad tried most none_tried end → 0 < end.count → now ≡ count_after before end.count
+    → CountsBetween 1 most before now
+counts_between Bad tried most end before now tries some e =
+    record { steps = end.count; at_least = omega arith; at_most = omega (arith, tries.counts); counted = e }

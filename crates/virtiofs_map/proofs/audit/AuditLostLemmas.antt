@@ -1,55 +1,35 @@
--- Names that pass and do not list back: what the test says of them, and that the names tried decide.
-use Rattle.std.proofs.lemmas.Grind.{common_steps}
-use Rattle.std.proofs.Common.{◌≡◌, ◌≢◌, ℕ, true, false, not, List, [], ◌∷◌, ◌++◌, length, drop, Option, Some, inl}
-use Rattle.std.proofs.Common.{inr, refl, sym, ap, ◌∙◌, subst, arith, rules}
+-- Names that pass and do not list back: what the code tests of them, and the front of such a name that is tried.
+use Rattle.std.proofs.Common.{◌≡◌, ◌≢◌, ◌⊎◌, ℕ, Bool, true, not, ◌==◌, List, [], ◌∷◌, ◌++◌, length, drop, Option}
+use Rattle.std.proofs.Common.{Some, None, inl, inr, refl, sym, ap, ◌∙◌, subst, arith, ◌↔◌}
+use Rattle.std.specs.Bool.{IsTrue}
 use Rattle.std.specs.List.{All}
-use Rattle.std.specs.Option.{option_map_or}
-use Rattle.std.proofs.lemmas.Bool.{and_parts, and_from, cases_Bool, false≢true, true≢false, not-true, not_from_false}
-use Rattle.std.proofs.lemmas.Bool.{eqb-true, eq-eqb, ne_eqb, false_from_ne_true}
+use Rattle.std.specs.Option.{option_and_then}
+use Rattle.std.proofs.lemmas.Bool.{cases_Bool, true≢false, eqb-true, eq-eqb}
 use Rattle.std.proofs.lemmas.List.{length-append, length-drop, drop_at}
-use Rattle.std.proofs.lemmas.List.Elements.{All-append, All-head}
 use Rattle.virtiofs_map.specs.Audit.{Within, Sound, IsLost}
-use Rattle.virtiofs_map.specs.AuditParts.{added_prefix, some_byte, cuts, is_lost, within, guest_names}
+use Rattle.virtiofs_map.specs.AuditParts.{added_prefix}
+use Rattle.virtiofs_map.specs.GatheredParts.{added_prefix_of}
 use Rattle.virtiofs_map.specs.MapRule.{IsName}
 use Rattle.virtiofs_map.specs.Names.{begins, HostAnswer, IsListed, IsHidden, IsUndecided, host_answer, server_answer}
 use Rattle.virtiofs_map.specs.Names.{ListsBack}
 use Rattle.virtiofs_map.specs.Rule.{MappingRule, HasNoZero}
 use Rattle.virtiofs_map.specs.declared.xattrmap.scopes.Side.TheVariants.{Client, Server}
-use Rattle.virtiofs_map.proofs.AuditAlikeLemmas.{Cover, fare_alike, server_alike}
+use Rattle.virtiofs_map.proofs.AuditAlikeLemmas.{GuestTried, FareAlike, front_is_name, server_alike}
 use Rattle.virtiofs_map.proofs.AuditAddedLemmas.{passes_added, added_passes, listed_cut, cut_listed, answer_to_one}
-use Rattle.virtiofs_map.proofs.AuditAddedLemmas.{server_one, added_no_zero}
-use Rattle.virtiofs_map.proofs.audit.AuditLeastLemmas.{Decide, HasBadFront, decide_within}
-use Rattle.virtiofs_map.proofs.MapRuleLemmas.{not_zero_name}
-use Rattle.virtiofs_map.proofs.NoZeroLemmas.{IsNotZero}
-
-pub some_byte_from : (name : List ℕ) → name ≢ [] → some_byte name ≡ true
-some_byte_from [] some = absurd (some refl)
-some_byte_from (x ∷ xs) some = ap not (ne_eqb (length (x ∷ xs)) 0 (λ e. absurd (omega arith)))
-
-pub some_byte_is : (name : List ℕ) → some_byte name ≡ true → name ≢ []
-some_byte_is name e none = let zero = ap some_byte none in absurd (true≢false (sym e ∙ zero))
-
--- what a name becomes holds no zero, and is not empty
-pub host_no_zero : (rules : List MappingRule) (name added : List ℕ) → All HasNoZero rules → IsName name
-    → added_prefix Client rules name ≡ Some added → All IsNotZero (added ++ name)
-host_no_zero rules name added no_zero is e = grind (arith, common_steps, All-append, added_no_zero, not_zero_name)
-
-pub host_not_empty : (added name : List ℕ) → name ≢ [] → added ++ name ≢ []
-host_not_empty [] name some e = some e
-host_not_empty (x ∷ added) name some e = cc
+use Rattle.virtiofs_map.proofs.AuditAddedLemmas.{server_one}
+use Rattle.virtiofs_map.proofs.audit.AuditLeastLemmas.{HasBadFront}
+use Rattle.virtiofs_map.proofs.audit.AuditPassLemmas.{front_tried, host_is, host_no_zero, host_not_empty}
 
 -- ---- listed back
 
-cuts_is : (added : List ℕ) (o : Option (List ℕ)) → cuts added o ≡ true
-    → (cut : List ℕ) × (o ≡ Some cut) × (length cut ≡ length added)
-cuts_is added o e = grind (arith, false≢true, eqb-true)
+-- the server's rules take off the host name just as much as was put before the name
+abbrev pub CutsAll : List MappingRule → List ℕ → List ℕ → Type 0
+CutsAll rules added host = (cut : List ℕ) × (added_prefix Server rules host ≡ Some cut) × (length cut ≡ length added)
 
 -- a name of which just as much is taken off as was put before it lists back
-pub back_where_cut : (rules : List MappingRule) (name added : List ℕ) → All HasNoZero rules → IsName name → name ≢ []
-    → added_prefix Client rules name ≡ Some added → cuts added (added_prefix Server rules (added ++ name)) ≡ true
-    → ListsBack rules name
-back_where_cut rules name added no_zero is some e c =
-    let (cut, at, long) = cuts_is added (added_prefix Server rules (added ++ name)) c in
+back_where_cut : (rules : List MappingRule) (name added : List ℕ) → All HasNoZero rules → IsName name → name ≢ []
+    → added_prefix Client rules name ≡ Some added → CutsAll rules added (added ++ name) → ListsBack rules name
+back_where_cut rules name added no_zero is some e (cut, at, long) =
     let listed = cut_listed rules (added ++ name) cut at in
     let rest : drop (length cut) (added ++ name) ≡ name = drop_at added name (length cut) (sym long) in
     record {
@@ -77,75 +57,85 @@ listed_as IsHidden (x ∷ xs) some e =
 listed_as IsUndecided name some e = absurd (cc)
 
 -- a name that lists back is one of which just as much is taken off
-pub cut_where_back : (rules : List MappingRule) (name added : List ℕ) → All HasNoZero rules → IsName name → name ≢ []
-    → added_prefix Client rules name ≡ Some added → ListsBack rules name
-    → cuts added (added_prefix Server rules (added ++ name)) ≡ true
+cut_where_back : (rules : List MappingRule) (name added : List ℕ) → All HasNoZero rules → IsName name → name ≢ []
+    → added_prefix Client rules name ≡ Some added → ListsBack rules name → CutsAll rules added (added ++ name)
 cut_where_back rules name added no_zero is some e back =
-    let passes = added_passes rules name added e in
-    let same : back.becomes ≡ added ++ name = (let both = sym back.passes ∙ passes in cc) in
+    let same = host_is rules name back.becomes added back.passes e in
     let lists = subst (λ host. server_answer rules (host ++ 0 ∷ []) ≡ Some (name ++ 0 ∷ [])) same back.lists in
     let one =
     server_one rules (added ++ name) (host_not_empty added name some)
     (host_no_zero rules name added no_zero is e) in
     let (shown, listed, long) = listed_as (host_answer rules (added ++ name)) name some (sym one ∙ lists) in
     let by = listed_cut rules (added ++ name) shown listed in
-    let cut = length_back added name by.cut some (sym (ap length by.name_is) ∙ long) in
-    ap (cuts added) by.is ∙ eq-eqb (length by.cut) (length added) cut
+    (by.cut, by.is, length_back added name by.cut some (sym (ap length by.name_is) ∙ long))
 
 -- ---- the test
 
-pub lost_at : (rules : List MappingRule) (name added : List ℕ) → name ≢ [] → added_prefix Client rules name ≡ Some added
-    → is_lost rules name ≡ not (cuts added (added_prefix Server rules (added ++ name)))
-lost_at rules name added some e = rw (some_byte_from name some, e) refl
+pub lost_where : (rules : List MappingRule) (name added : List ℕ) → All HasNoZero rules → IsName name → name ≢ []
+    → added_prefix Client rules name ≡ Some added → (CutsAll rules added (added ++ name) → ⊥) → IsLost rules name
+lost_where rules name added no_zero is some e fails = record {
+  is_name = is;
+  not_empty = some;
+  host = added ++ name;
+  passes = added_passes rules name added e;
+  not_back = λ back. fails (cut_where_back rules name added no_zero is some e back);
+}
 
-lost_added : (rules : List MappingRule) (name : List ℕ) (o : Option (List ℕ))
-    → option_map_or (λ added. not (cuts added (added_prefix Server rules (added ++ name)))) o false ≡ true
-    → (added : List ℕ) × (o ≡ Some added)
-lost_added rules name o e = grind (arith, false≢true)
+lost_cuts : (rules : List MappingRule) (name added : List ℕ) → All HasNoZero rules
+    → added_prefix Client rules name ≡ Some added → IsLost rules name → CutsAll rules added (added ++ name) → ⊥
+lost_cuts rules name added no_zero e lost cuts =
+    lost.not_back (back_where_cut rules name added no_zero lost.is_name lost.not_empty e cuts)
 
-pub test_lost : (rules : List MappingRule) → All HasNoZero rules → (name : List ℕ) → IsName name
-    → is_lost rules name ≡ true → IsLost rules name
-test_lost rules no_zero name is e =
-    let parts =
-    and_parts (some_byte name)
-    (option_map_or (λ added. not (cuts added (added_prefix Server rules (added ++ name)))) (added_prefix Client rules name) false)
-    e in
-    let some = some_byte_is name parts.0 in
-    let (added, at) = lost_added rules name (added_prefix Client rules name) parts.1 in
-    record {
-      is_name = is;
-      not_empty = some;
-      host = added ++ name;
-      passes = added_passes rules name added at;
-      not_back = grind (arith, cut_where_back, not-true, lost_at, true≢false);
-    }
+pub lost_iff : (rules : List MappingRule) (name added cut : List ℕ) (answer : Bool) → All HasNoZero rules → IsName name
+    → name ≢ [] → added_prefix Client rules name ≡ Some added → added_prefix Server rules (added ++ name) ≡ Some cut
+    → answer ≡ not (length cut == length added) → IsTrue answer ↔ IsLost rules name
+lost_iff rules name added cut answer no_zero is some e at same =
+    grind (arith, lost_where, lost_cuts, cases_Bool, eqb-true, eq-eqb, true≢false)
 
 -- ---- the names tried decide
 
-lost_front_tried : (rules : List MappingRule) → All HasNoZero rules → (beginning : List ℕ) (tried : List (List ℕ))
-    → Cover beginning (guest_names Server rules rules) tried
-    → (name : List ℕ) → IsLost rules name → begins beginning name ≡ true
-    → HasBadFront (within beginning (is_lost rules)) tried name
-lost_front_tried rules no_zero beginning tried cover [] lost b = absurd (lost.not_empty refl)
-lost_front_tried rules no_zero beginning tried cover (x ∷ xs) lost b =
-    grind (arith, All-head, passes_added, fare_alike, and_from, server_alike, lost_at, not_from_false, false_from_ne_true, back_where_cut)
+lost_front : (rules : List MappingRule) (beginning name added : List ℕ)
+    (alike : FareAlike Server rules rules beginning name added) → All HasNoZero rules → IsLost rules name
+    → added_prefix Client rules name ≡ Some added → IsLost rules alike.by
+lost_front rules beginning name added alike no_zero lost e =
+    lost_where rules alike.by added no_zero (front_is_name alike.by name alike.is_front lost.is_name) alike.not_empty
+    alike.client
+    (λ (cut, at, long).
+    lost_cuts rules name added no_zero e lost (
+      cut,
+      ap (option_and_then added_prefix_of) (server_alike rules (added ++ name) (added ++ alike.by) alike.hosts) ∙ at,
+      long,
+    ))
 
-pub lost_decide : (rules : List MappingRule) → All HasNoZero rules → (beginning : List ℕ) (tried : List (List ℕ))
-    → Cover beginning (guest_names Server rules rules) tried → Decide (Within beginning (IsLost rules))
-    (within beginning (is_lost rules)) tried
-lost_decide rules no_zero beginning tried cover = search (rules, decide_within, test_lost, lost_front_tried)
+pub lost_tried : (rules : List MappingRule) → All HasNoZero rules → (beginning name : List ℕ) → IsLost rules name
+    → begins beginning name ≡ true
+    → HasBadFront (Within beginning (IsLost rules)) (GuestTried Server rules rules beginning) name
+lost_tried rules no_zero beginning name lost b =
+    front_tried (IsLost rules) Server rules rules beginning name lost.host
+    (λ added alike e same front. lost_front rules beginning name added alike no_zero lost e) lost lost.is_name
+    lost.passes b
 
 -- ---- sound
+
+cuts_or : (added : List ℕ) (o : Option (List ℕ))
+    → ((cut : List ℕ) × (o ≡ Some cut) × (length cut ≡ length added))
+    ⊎ (((cut : List ℕ) × (o ≡ Some cut) × (length cut ≡ length added)) → ⊥)
+cuts_or added None = inr (λ (cut, e, long). cc)
+cuts_or added (Some cut) =
+    elim (cases_Bool (length cut == length added)) [
+      | inl equal ↦ inl (cut, refl, eqb-true (length cut) (length added) equal)
+      | inr differ ↦ inr (λ (other, e, long).
+          true≢false (sym (eq-eqb (length cut) (length added) (let one : cut ≡ other = cc in ap length one ∙ long))
+          ∙ differ))
+    ]
 
 pub sound_where_none : (rules : List MappingRule) → All HasNoZero rules → ((name : List ℕ) → ¬ IsLost rules name)
     → Sound rules
 sound_where_none rules no_zero none name host is some passes =
     let by = passes_added rules name host passes in
-    elim (cases_Bool (cuts by.added (added_prefix Server rules (by.added ++ name)))) [
-      | inl c ↦ back_where_cut rules name by.added no_zero is some by.is c
-      | inr c ↦ absurd
-          (none name
-          (grind (arith, test_lost, lost_at, not_from_false)))
+    elim (cuts_or by.added (added_prefix Server rules (by.added ++ name))) [
+      | inl cuts ↦ back_where_cut rules name by.added no_zero is some by.is cuts
+      | inr fails ↦ absurd (none name (lost_where rules name by.added no_zero is some by.is fails))
     ]
 
 pub none_where_sound : (rules : List MappingRule) → Sound rules → (name : List ℕ) → ¬ IsLost rules name

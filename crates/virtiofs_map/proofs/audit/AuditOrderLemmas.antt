@@ -1,6 +1,6 @@
 -- Names in the order of their bytes.
 use Rattle.std.proofs.Common.{◌≡◌, ℕ, ◌-◌, ◌<◌, ◌≤◌, true, false, List, [], ◌∷◌, ◌++◌, length, get_or, Contains}
-use Rattle.std.proofs.Common.{Option, Some, inl, inr, refl, ap, ◌∙◌, arith, rules}
+use Rattle.std.proofs.Common.{Some, inl, inr, refl, ap, ◌∙◌, arith, rules}
 use Rattle.std.specs.BTreeMap.Comparable.{le_lt_trans}
 use Rattle.std.specs.Cmp.Lexicographic.{slice_cmp, nat_list_cmp_total}
 use Rattle.std.specs.List.{slice_get}
@@ -13,7 +13,7 @@ use Rattle.std.proofs.lemmas.Cmp.{ranked, by_ranked, nat_cmp_total, tied_itself}
 use Rattle.std.proofs.lemmas.List.Sorted.{ranks_by, sorted_far, searchable_from_sorted}
 use Rattle.std.proofs.lemmas.Option.{slice_get-get_or, slice_get_within, get_or_from_slice_get}
 use Rattle.virtiofs_map.specs.Audit.{IsBefore}
-use Rattle.virtiofs_map.specs.GatheredParts.{AreOrdered, CountsBefore, IsLast, IsLastUpTo}
+use Rattle.virtiofs_map.specs.GatheredParts.{AreOrdered, CountsBefore, IsLast}
 use Rattle.virtiofs_map.specs.Names.{begins}
 use Rattle.virtiofs_map.proofs.audit.AuditLeastLemmas.{is_lt-true, is_lt-false}
 
@@ -109,20 +109,6 @@ last_up_to names bytes last count ordered some parted there = record {
         | inr above ↦ grind (arith, after_from_fails)
       ]);
 }
-
-found_at : (names : List (List ℕ)) (bytes : List ℕ) (found : Option (List ℕ)) (count : ℕ) → AreOrdered names
-    → 0 < count → count ≤ length names
-    → IsPartitionPoint (λ name. is_le (slice_cmp nat_cmp name bytes) ≡ true)
-    (λ name. is_le (slice_cmp nat_cmp name bytes) ≡ false) names count
-    → found ≡ slice_get names (count - 1) → IsLastUpTo names bytes found
-found_at names bytes found count ordered some l parted e = grind (arith, slice_get-get_or, last_up_to)
-
-pub last_at : (names same : List (List ℕ)) (bytes : List ℕ) (found : Option (List ℕ)) (count : ℕ) → names ≡ same
-    → AreOrdered names → 0 < count → count ≤ length names
-    → IsPartitionPoint (λ name. is_le (slice_cmp nat_cmp name bytes) ≡ true)
-    (λ name. is_le (slice_cmp nat_cmp name bytes) ≡ false) names count
-    → found ≡ slice_get same (count - 1) → IsLastUpTo same bytes found
-last_at names same bytes found count e ordered some l parted at = search (rules, found_at)
 
 -- ---- what stands between
 

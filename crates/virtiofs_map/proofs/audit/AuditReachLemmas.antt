@@ -1,29 +1,25 @@
 -- Whether a map reaches a name of the host: it is enough to try what rules put before names, where it begins that name.
-use Rattle.std.proofs.Common.{◌≡◌, ℕ, zero, suc, ◌-◌, ◌<◌, ◌≤◌, Bool, true, false, cond, eqb, List, [], ◌∷◌}
-use Rattle.std.proofs.Common.{length, take, drop, Contains, Option, Some, None, inl, inr, refl, sym, ap, subst, ◌∙◌}
-use Rattle.std.proofs.Common.{arith, rules}
-use Rattle.std.specs.List.{filter_map}
+use Rattle.std.proofs.Common.{◌≡◌, ℕ, zero, suc, ◌-◌, ◌<◌, ◌≤◌, true, false, eqb, List, [], ◌∷◌, ◌++◌, ◌↔◌, None, Some}
+use Rattle.std.proofs.Common.{length, take, drop, Contains, inl, inr, refl, sym, ap, subst, ◌∙◌, arith, rules, Bool}
+use Rattle.std.specs.Bool.{IsTrue, nat_eq}
+use Rattle.std.specs.Cmp.Lexicographic.{pointwise}
 use Rattle.std.specs.List.Sorted.{IsPermutation}
-use Rattle.std.proofs.lemmas.List.{length-take, nil_from_length}
-use Rattle.std.proofs.lemmas.Bool.{and_parts, and_from, false_from_ne_true, cases_Bool, cases_lt, eqb-true}
-use Rattle.std.proofs.lemmas.Bool.{false≢true, true≢false}
+use Rattle.std.proofs.lemmas.List.{append_cancel_left, length-take, nil_from_length}
+use Rattle.std.proofs.lemmas.Bool.{cases_Bool, cases_lt, eqb-true, false≢true}
 use Rattle.std.proofs.lemmas.List.Sorted.{Contains-permutation}
 use Rattle.std.proofs.lemmas.List.Sums.{common_prefix_len-le}
 use Rattle.virtiofs_map.specs.Audit.{IsBefore}
-use Rattle.virtiofs_map.specs.AuditParts.{added_prefix, adds, passes_with, is_reached}
+use Rattle.virtiofs_map.specs.AuditParts.{PassesWith, added_prefix, parts}
 use Rattle.virtiofs_map.specs.FirstRule.{shared}
-use Rattle.virtiofs_map.specs.GatheredParts.{part_of, IsLast}
+use Rattle.virtiofs_map.specs.GatheredParts.{IsLast}
 use Rattle.virtiofs_map.specs.Names.{begins}
 use Rattle.virtiofs_map.specs.Rule.{MappingRule}
 use Rattle.virtiofs_map.specs.declared.audit.gathered.Part.TheVariants.{Added}
 use Rattle.virtiofs_map.specs.declared.xattrmap.scopes.Side.TheVariants.{Client}
-use Rattle.virtiofs_map.proofs.AuditAlikeLemmas.{shorter_begins}
-use Rattle.virtiofs_map.proofs.BeginsLemmas.{begins_itself, begins_split, begins_length, begins-append}
-use Rattle.virtiofs_map.proofs.audit.AuditGatheredLemmas.{gathered_member}
+use Rattle.virtiofs_map.proofs.AuditAlikeLemmas.{shorter_begins, added_among}
+use Rattle.virtiofs_map.proofs.BeginsLemmas.{begins_itself, begins_length, begins_from, begins_split}
+use Rattle.virtiofs_map.proofs.audit.AuditStrayLemmas.{bytes_same, same_bytes}
 use Rattle.virtiofs_map.proofs.audit.AuditOrderLemmas.{level, between, front_not_before}
-use Rattle.virtiofs_map.proofs.audit.AuditSharedLemmas.{LeadsTo, leads_from, leads_test, test_leads, rule_member}
-use Rattle.virtiofs_map.proofs.audit.AuditSharedLemmas.{rule_fits, rest_is, added_is}
-use Rattle.virtiofs_map.proofs.audit.AuditStrayLemmas.{adds_is, bytes_same}
 
 -- ---- what two rows share
 
@@ -62,36 +58,44 @@ same_front (x ∷ p) (y ∷ name) b e = grind (arith, same_front p name)
 pub record IsLeft (rules : List MappingRule) (all_added : List (List ℕ)) (host rest : List ℕ) : Type 0 where
   pub begun : begins rest host ≡ true
   pub others : (added : List ℕ) → Contains all_added added → length rest < length added
-      → passes_with rules host added ≡ false
+      → ¬ PassesWith rules host added
 
-passes_begins : (rules : List MappingRule) (host added : List ℕ) → passes_with rules host added ≡ true
+pub passes_begins : (rules : List MappingRule) (host added : List ℕ) → PassesWith rules host added
     → begins added host ≡ true
-passes_begins rules host added e = grind (arith, and_parts)
+passes_begins rules host added (name, e, same) = begins_from added host name same
 
-pub left_first : (rules : List MappingRule) (all_added : List (List ℕ)) (host : List ℕ) → IsLeft rules all_added host host
-left_first rules all_added host = grind (arith, begins_itself, begins_length, passes_begins)
+-- what is left of the host name after the added prefix
+rest_split : (host added rest : List ℕ) → begins added host ≡ true → rest ≡ drop (length added) host
+    → host ≡ added ++ rest
+rest_split host added rest b is = begins_split added host b ∙ ap (λ r. added ++ r) (sym is)
 
--- an added prefix that leads to the host name and is no longer than the rest begins the last one up to the rest
-leads_last : (rules : List MappingRule) (all_added : List (List ℕ)) (host rest last added : List ℕ)
-    → IsLeft rules all_added host rest → IsLast all_added rest last → Contains all_added added
-    → passes_with rules host added ≡ true
-    → (begins added rest ≡ true) × (begins added last ≡ true)
-leads_last rules all_added host rest last added left is among e =
-    elim (cases_lt (length rest) (length added)) [
-      | inl longer ↦ absurd (true≢false (sym e ∙ left.others added among longer))
-      | inr within ↦
-          (let begun = shorter_begins added rest host (passes_begins rules host added e) left.begun within in
-          let low = is.latest added among (front_not_before added rest begun) in
-          (begun, between added last rest begun low is.up_to))
-    ]
+pub with_none : (rules : List MappingRule) (host added rest : List ℕ) → begins added host ≡ true
+    → rest ≡ drop (length added) host → added_prefix Client rules rest ≡ None → PassesWith rules host added → ⊥
+with_none rules host added rest b is none (name, e, same) =
+    let split = rest_split host added rest b is in
+    let one : rest ≡ name = append_cancel_left added rest name (sym split ∙ same) in
+    (let fails = sym none ∙ ap (added_prefix Client rules) one ∙ e in cc)
 
--- none is longer than what the last one shares with the rest
-leads_shared : (rules : List MappingRule) (all_added : List (List ℕ)) (host rest last added : List ℕ)
-    → IsLeft rules all_added host rest → IsLast all_added rest last → Contains all_added added
-    → passes_with rules host added ≡ true → length added ≤ shared last rest
-leads_shared rules all_added host rest last added left is among e =
-    let (one, other) = leads_last rules all_added host rest last added left is among e in
-    front_shared added last rest other one
+pub with_iff : (rules : List MappingRule) (host added rest found : List ℕ) (answer : Bool)
+    → begins added host ≡ true → rest ≡ drop (length added) host
+    → added_prefix Client rules rest ≡ Some found → answer ≡ pointwise nat_eq found added
+    → IsTrue answer ↔ PassesWith rules host added
+with_iff rules host added rest found answer b is at same =
+    let split = rest_split host added rest b is in (
+      λ yes. (rest, at ∙ ap Some (same_bytes found added (sym same ∙ yes)), split),
+      λ (name, e, other).
+          (let one : rest ≡ name = append_cancel_left added rest name (sym split ∙ other) in
+          let equal : found ≡ added = (let both = sym at ∙ ap (added_prefix Client rules) one ∙ e in cc) in
+          same ∙ ap (λ f. pointwise nat_eq f added) equal ∙ bytes_same added),
+    )
+
+pub left_first : (rules : List MappingRule) (all_added : List (List ℕ)) (host : List ℕ)
+    → IsLeft rules all_added host host
+left_first rules all_added host = record {
+  begun = begins_itself host;
+  others = λ added among l passes.
+      omega (arith, begins_length added host (passes_begins rules host added passes));
+}
 
 begins_take : (k : ℕ) (rest host : List ℕ) → begins rest host ≡ true → begins (take k rest) host ≡ true
 begins_take zero rest host b = refl
@@ -102,103 +106,79 @@ begins_take (suc k) (x ∷ rest) (y ∷ host) b = grind (arith, begins_take k re
 pub take_within : (k : ℕ) (rest : List ℕ) → k ≤ length rest → length (take k rest) ≡ k
 take_within k rest l = omega (arith, length-take k rest)
 
--- the last one does not begin the rest
-pub left_shared : (rules : List MappingRule) (all_added : List (List ℕ)) (host rest last less : List ℕ) (count : ℕ)
-    → IsLeft rules all_added host rest → IsLast all_added rest last → count ≡ shared last rest → less ≡ take count rest
-    → IsLeft rules all_added host less
-left_shared rules all_added host rest last less count left is e at =
-    subst (IsLeft rules all_added host) (sym at) (record {
-      begun = begins_take count rest host left.begun;
-      others = λ added among l.
-          false_from_ne_true (passes_with rules host added)
-          (λ holds. omega (
-            arith,
-            leads_shared rules all_added host rest last added left is among holds,
-            take_within count rest (omega (arith, shared_within last rest)),
-          ));
-    })
+module _ (rules : List MappingRule) (all_added : List (List ℕ)) (host rest last : List ℕ)
+    (left : IsLeft rules all_added host rest) (is : IsLast all_added rest last) where
+  -- an added prefix that leads to the host name begins the rest, and the last one up to the rest
+  leads_last : (added : List ℕ) → Contains all_added added → PassesWith rules host added
+      → (begins added rest ≡ true) × (begins added last ≡ true)
+  leads_last added among passes =
+      elim (cases_lt (length rest) (length added)) [
+        | inl longer ↦ absurd (left.others added among longer passes)
+        | inr within ↦
+            (let begun = shorter_begins added rest host (passes_begins rules host added passes) left.begun within in
+            let low = is.latest added among (front_not_before added rest begun) in
+            (begun, between added last rest begun low is.up_to))
+      ]
 
--- the last one begins the rest, and does not lead to the host name
-pub left_shorter : (rules : List MappingRule) (all_added : List (List ℕ)) (host rest last less : List ℕ) (count : ℕ)
-    → IsLeft rules all_added host rest → IsLast all_added rest last → count ≡ shared last rest → length last ≤ count
-    → passes_with rules host last ≡ false → 0 < count → less ≡ take (count - 1) rest
-    → IsLeft rules all_added host less
-left_shorter rules all_added host rest last less count left is e whole fails some at =
-    subst (IsLeft rules all_added host) (sym at) (record {
-      begun = begins_take (count - 1) rest host left.begun;
-      others = λ added among l.
-          false_from_ne_true (passes_with rules host added)
-          (λ holds. shorter_fails rules all_added host rest last added left is among holds fails
-          (omega (arith, take_within (count - 1) rest (omega (arith, shared_within last rest)))));
-    }) where
-      shorter_fails : (rules : List MappingRule) (all_added : List (List ℕ)) (host rest last added : List ℕ)
-          → IsLeft rules all_added host rest → IsLast all_added rest last → Contains all_added added
-          → passes_with rules host added ≡ true → passes_with rules host last ≡ false
-          → length last ≤ length added → ⊥
-      shorter_fails rules all_added host rest last added left is among holds fails l =
-          let (one, other) = leads_last rules all_added host rest last added left is among holds in
-          let within = begins_length added last other in
-          let same = same_front added last other (omega arith) in
-          true≢false (sym (subst (λ a. passes_with rules host a ≡ true) same holds) ∙ fails)
+  -- it is no longer than what the last one shares with the rest
+  pub leads_shared : (added : List ℕ) → Contains all_added added → PassesWith rules host added
+      → length added ≤ shared last rest
+  leads_shared added among passes =
+      let (one, other) = leads_last added among passes in front_shared added last rest other one
+
+  -- the last one does not begin the rest
+  pub left_shared : (count : ℕ) → count ≡ shared last rest → IsLeft rules all_added host (take count rest)
+  left_shared count e = record {
+    begun = begins_take count rest host left.begun;
+    others = λ added among l passes. omega (
+      arith,
+      leads_shared added among passes,
+      take_within count rest (omega (arith, shared_within last rest)),
+    );
+  }
+
+  -- the last one begins the rest, and does not lead to the host name
+  pub left_shorter : (count : ℕ) → count ≡ shared last rest → length last ≤ count → (PassesWith rules host last → ⊥)
+      → 0 < count → IsLeft rules all_added host (take (count - 1) rest)
+  left_shorter count e whole fails some = record {
+    begun = begins_take (count - 1) rest host left.begun;
+    others = λ added among l passes.
+        (let (one, other) = leads_last added among passes in
+        let within = begins_length added last other in
+        let long = take_within (count - 1) rest (omega (arith, shared_within last rest)) in
+        let same = same_front added last other (omega arith) in
+        fails (subst (PassesWith rules host) same passes));
+  }
+
+  -- the last one is empty, and does not lead to the host name
+  pub left_none : shared last rest ≡ 0 → length last ≤ shared last rest → (PassesWith rules host last → ⊥)
+      → (added : List ℕ) → Contains all_added added → PassesWith rules host added → ⊥
+  left_none none whole fails added among passes =
+      let most = leads_shared added among passes in
+      let empty : last ≡ [] = nil_from_length last (omega arith) in
+      let same : added ≡ [] = nil_from_length added (omega arith) in
+      fails (subst (PassesWith rules host) (same ∙ sym empty) passes)
 
 -- ---- the answer
 
-pub reached_where : (rules : List MappingRule) (host added : List ℕ) → passes_with rules host added ≡ true
-    → is_reached rules host ≡ true
-reached_where rules host added e = grind (arith, and_parts, leads_test, leads_from, adds_is, begins_split)
-
-leads_with : (rules : List MappingRule) (host : List ℕ) (leads : LeadsTo rules host)
-    → passes_with rules host leads.added ≡ true
-leads_with rules host leads =
-    and_from (begins leads.added host) (adds leads.added (added_prefix Client rules (drop (length leads.added) host)))
-    (grind (arith, begins-append))
-    (ap (λ n. adds leads.added (added_prefix Client rules n)) (rest_is rules host leads)
-    ∙ ap (adds leads.added) (added_is rules host leads) ∙ bytes_same leads.added)
-
-added_where : (on : Bool) (o : Option (List ℕ)) (added : List ℕ) → on ≡ true → o ≡ Some added
-    → cond on o None ≡ Some added
-added_where on o added e p = grind (arith, false≢true)
-
 -- where no added prefix leads to the host name, nothing does
 pub not_reached : (rules : List MappingRule) (all_added : List (List ℕ)) (host : List ℕ)
-    → IsPermutation (filter_map (part_of (Added Client)) rules) all_added
-    → ((added : List ℕ) → Contains all_added added → passes_with rules host added ≡ true → ⊥)
-    → is_reached rules host ≡ false
-not_reached rules all_added host are none =
-    false_from_ne_true (is_reached rules host)
-    (λ e.
-    (let leads = test_leads rules host e in
-    let fit = rule_fits rules host leads in
-    let among =
-    gathered_member (part_of (Added Client)) leads.rule rules leads.added (rule_member rules host leads)
-    (search added_where) in
-    none leads.added
-    (search Contains-permutation)
-    (leads_with rules host leads)))
+    → IsPermutation (parts (Added Client) rules) all_added
+    → ((added : List ℕ) → Contains all_added added → PassesWith rules host added → ⊥)
+    → IsTrue false ↔ ((added : List ℕ) × PassesWith rules host added)
+not_reached rules all_added host are none = (
+  λ no. absurd (false≢true no),
+  λ (added, (name, e, same)). absurd
+      (none added (Contains-permutation _ all_added added are (added_among Client rules name added e)) (name, e, same)),
+)
 
 -- all of them come after the rest
-pub not_reached_past : (rules : List MappingRule) (all_added : List (List ℕ)) (host rest : List ℕ)
-    → IsPermutation (filter_map (part_of (Added Client)) rules) all_added → IsLeft rules all_added host rest
-    → ((added : List ℕ) → Contains all_added added → IsBefore rest added) → is_reached rules host ≡ false
-not_reached_past rules all_added host rest are left past =
-    not_reached rules all_added host are
-    (λ added among e. elim (cases_lt (length rest) (length added)) [
-      | inl longer ↦ true≢false (sym e ∙ left.others added among longer)
-      | inr within ↦
-          front_not_before added rest
-          (search (shorter_begins, passes_begins)) (past added among)
-    ])
-
--- the last one up to the rest is empty, and does not lead to the host name
-pub not_reached_empty : (rules : List MappingRule) (all_added : List (List ℕ)) (host rest last : List ℕ)
-    → IsPermutation (filter_map (part_of (Added Client)) rules) all_added → IsLeft rules all_added host rest
-    → IsLast all_added rest last → shared last rest ≡ 0 → length last ≤ shared last rest
-    → passes_with rules host last ≡ false → is_reached rules host ≡ false
-not_reached_empty rules all_added host rest last are left is none whole fails =
-    not_reached rules all_added host are
-    (λ added among e.
-    (let most = leads_shared rules all_added host rest last added left is among e in
-    let empty : last ≡ [] = nil_from_length last (omega arith) in
-    let same : added ≡ [] = nil_from_length added (omega arith) in
-    let as_last : added ≡ last = same ∙ sym empty in
-    true≢false (sym (subst (λ a. passes_with rules host a ≡ true) as_last e) ∙ fails)))
+pub past_fails : (rules : List MappingRule) (all_added : List (List ℕ)) (host rest : List ℕ)
+    → IsLeft rules all_added host rest → ((added : List ℕ) → Contains all_added added → IsBefore rest added)
+    → (added : List ℕ) → Contains all_added added → PassesWith rules host added → ⊥
+past_fails rules all_added host rest left past added among passes =
+    elim (cases_lt (length rest) (length added)) [
+      | inl longer ↦ left.others added among longer passes
+      | inr within ↦ front_not_before added rest
+          (shorter_begins added rest host (passes_begins rules host added passes) left.begun within) (past added among)
+    ]

@@ -1,74 +1,76 @@
--- Names whose host name another map does not hide: that the names tried decide, and what they mean for lists.
-use Rattle.std.proofs.Common.{◌≡◌, ◌≢◌, ℕ, ◌<◌, Bool, true, ◌&&◌, not, cond, List, [], ◌∷◌, ◌++◌, length}
-use Rattle.std.proofs.Common.{Some, None, inl, inr, refl, sym, ap, ◌∙◌, subst, arith, rules}
+-- Names whose host name another map does not hide: what the code tests of them, the front of such a name that is tried,
+-- and what they mean for lists.
+use Rattle.std.proofs.Common.{◌≡◌, ◌≢◌, ◌⊎◌, ℕ, ◌<◌, Bool, true, ◌&&◌, not, cond, List, [], ◌∷◌, ◌++◌, length, ◌↔◌}
+use Rattle.std.proofs.Common.{Some, None, inl, inr, refl, sym, ap, ◌∙◌, arith, rules}
+use Rattle.std.specs.Bool.{IsTrue}
 use Rattle.std.specs.List.{All, cons_option, list_all, filter_map}
-use Rattle.std.proofs.lemmas.Bool.{cases_Bool, true≢false, not-true, not_from_false, false_from_ne_true, ne_eqb}
+use Rattle.std.proofs.lemmas.Bool.{cases_Bool, true≢false, not-true, ne_eqb}
 use Rattle.std.proofs.lemmas.List.{length-append}
 use Rattle.std.proofs.lemmas.List.Elements.{All-nil, All-cons, All-append, All-weaker}
 use Rattle.std.proofs.lemmas.List.Splits.{slice_split_at}
 use Rattle.virtiofs_map.specs.Audit.{Within, Reached, Apart, IsSeen, Leaves, IsList, Isolated}
-use Rattle.virtiofs_map.specs.AuditParts.{is_hidden, is_seen, within, guest_names, one_byte_names}
+use Rattle.virtiofs_map.specs.AuditParts.{added_prefix}
 use Rattle.virtiofs_map.specs.MapRule.{IsName}
-use Rattle.virtiofs_map.specs.Names.{HostAnswer, IsListed, IsHidden, IsUndecided, host_answer, is_decided, listed_name}
-use Rattle.virtiofs_map.specs.Names.{names, as_list, server_answer}
-use Rattle.virtiofs_map.specs.Rule.{MappingRule, HasNoZero}
-use Rattle.virtiofs_map.specs.declared.xattrmap.scopes.Side.TheVariants.{Server}
-use Rattle.virtiofs_map.proofs.AuditAlikeLemmas.{server_alike}
-use Rattle.virtiofs_map.proofs.AuditAddedLemmas.{passes_added, added_passes, hidden_test, test_hidden}
-use Rattle.virtiofs_map.proofs.audit.AuditLeastLemmas.{Decide}
-use Rattle.virtiofs_map.proofs.audit.AuditPassLemmas.{IsByteOfName, all_bytes_from, PassesWhere, where_is_name}
-use Rattle.virtiofs_map.proofs.audit.AuditPassLemmas.{AreThose, where_decide}
+use Rattle.virtiofs_map.specs.Names.{begins, HostAnswer, IsListed, IsHidden, IsUndecided, host_answer}
+use Rattle.virtiofs_map.specs.Names.{is_decided, listed_name, names, as_list, server_answer}
+use Rattle.virtiofs_map.specs.Rule.{MappingRule}
+use Rattle.virtiofs_map.specs.declared.xattrmap.scopes.Side.TheVariants.{Client, Server}
+use Rattle.virtiofs_map.proofs.AuditAlikeLemmas.{GuestTried, FareAlike, front_is_name, server_alike}
+use Rattle.virtiofs_map.proofs.AuditAddedLemmas.{added_passes, hidden_same}
+use Rattle.virtiofs_map.proofs.audit.AuditLeastLemmas.{HasBadFront}
+use Rattle.virtiofs_map.proofs.audit.AuditPassLemmas.{front_tried, host_is, host_not_empty}
 use Rattle.virtiofs_map.proofs.MapRuleLemmas.{not_zero_name, some_name}
 use Rattle.virtiofs_map.proofs.NoZeroLemmas.{IsNotZero}
 use Rattle.virtiofs_map.proofs.ServerListLemmas.{is_name, is_zero}
 
 -- ---- the test
 
--- the others do not hide the host name
-abbrev pub is_shown : List MappingRule → List ℕ → Bool
-is_shown others host = not (is_hidden others host)
+abbrev IsByteOfName : ℕ → Type 0
+IsByteOfName byte = (0 < byte) × (byte < 256)
 
-those_seen : (rules others : List MappingRule) → All HasNoZero rules
-    → AreThose (IsSeen rules others) (is_shown others) rules
-those_seen rules others no_zero = record {
-  only = λ name is passes. record {
-    is_name = is;
-    host = passes.added ++ name;
-    is_host = where_is_name (is_shown others) rules no_zero name is passes;
-    not_empty = passes.some;
-    passes = added_passes rules name passes.added passes.is;
-    not_hidden =
-        grind (arith, true≢false, hidden_test, not-true);
-  };
-  all = λ name seen. (seen.is_name, of_seen name seen);
-} where
-  of_seen : (name : List ℕ) → IsSeen rules others name → PassesWhere (is_shown others) rules name
-  of_seen name seen =
-      let by = passes_added rules name seen.host seen.passes in
-      let shown =
-      false_from_ne_true (is_hidden others (by.added ++ name))
-      (grind (arith, test_hidden)) in
-      record {
-        added = by.added;
-        is = by.is;
-        some = λ none. seen.not_empty (by.host_is ∙ none);
-        bytes = all_bytes_from (by.added ++ name) (subst IsName by.host_is seen.is_host);
-        holds = not_from_false (is_hidden others (by.added ++ name)) shown;
-      }
+pub seen_iff : (rules others : List MappingRule) (name added host : List ℕ) (answer : Bool) → IsName name
+    → added_prefix Client rules name ≡ Some added → host ≡ added ++ name → IsName host → host ≢ []
+    → (IsTrue answer ↔ (host_answer others host ≡ IsHidden)) → IsTrue (not answer) ↔ IsSeen rules others name
+seen_iff rules others name added host answer is e same is_host some both =
+    grind (arith, added_passes, host_is, cases_Bool, true≢false, not-true)
 
-pub seen_decide : (rules others : List MappingRule) → All HasNoZero rules → (beginning : List ℕ)
-    → Decide (Within beginning (IsSeen rules others)) (within beginning (is_seen rules others))
-    (beginning ∷ guest_names Server others rules ++ one_byte_names)
-seen_decide rules others no_zero = grind (arith, where_decide, those_seen, server_alike)
+-- ---- the names tried decide
+
+seen_front : (rules others : List MappingRule) (beginning name added : List ℕ)
+    (alike : FareAlike Server rules others beginning name added) (seen : IsSeen rules others name)
+    → seen.host ≡ added ++ name → begins (added ++ alike.by) seen.host ≡ true → IsSeen rules others alike.by
+seen_front rules others beginning name added alike seen same front = record {
+  is_name = front_is_name alike.by name alike.is_front seen.is_name;
+  host = added ++ alike.by;
+  is_host = front_is_name (added ++ alike.by) seen.host front seen.is_host;
+  not_empty = host_not_empty added alike.by alike.not_empty;
+  passes = added_passes rules alike.by added alike.client;
+  not_hidden = λ hidden.
+      seen.not_hidden
+      (ap (host_answer others) same
+      ∙ hidden_same others (added ++ alike.by) (added ++ name)
+      (server_alike others (added ++ name) (added ++ alike.by) alike.hosts) hidden);
+}
+
+pub seen_tried : (rules others : List MappingRule) (beginning name : List ℕ) → IsSeen rules others name
+    → begins beginning name ≡ true
+    → HasBadFront (Within beginning (IsSeen rules others)) (GuestTried Server rules others beginning) name
+seen_tried rules others beginning name seen b =
+    front_tried (IsSeen rules others) Server rules others beginning name seen.host
+    (λ added alike e same front. seen_front rules others beginning name added alike seen same front) seen seen.is_name
+    seen.passes b
 
 -- ---- apart
+
+hidden_or : (answer : HostAnswer) → (answer ≡ IsHidden) ⊎ (answer ≢ IsHidden)
+hidden_or answer = grind arith
 
 pub apart_where_none : (rules others : List MappingRule) → ((name : List ℕ) → ¬ IsSeen rules others name)
     → Apart rules others
 apart_where_none rules others none host reached =
-    elim (cases_Bool (is_hidden others host)) [
-      | inl k ↦ test_hidden others host k
-      | inr k ↦ absurd (none reached.name (grind (arith, is_name, true≢false, hidden_test)))
+    elim (hidden_or (host_answer others host)) [
+      | inl hidden ↦ hidden
+      | inr fails ↦ absurd (none reached.name (grind arith))
     ]
 
 reached_by : (rules others : List MappingRule) (name : List ℕ) (seen : IsSeen rules others name)

@@ -1,11 +1,6 @@
 mod AppendedRowLemmas
-mod NodesOfLemmas
 mod NextByteLemmas
-mod LabelLemmas
-mod LevelOrderLemmas
-mod TextNodeLemmas
 mod PatternLemmas
 mod KeyedLemmas
-mod PatternTrieLemmas
-mod SameTextsLemmas
 mod SharedLemmas
+mod SameTextsLemmas

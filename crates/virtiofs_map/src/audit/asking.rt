@@ -7,9 +7,9 @@ ghost use Rattle.virtiofs_map.specs.Rule.{MappingRule};
 
 use crate::audit::answer::Audit;
 use crate::audit::candidates::{least_guest_name, least_host_name};
-use crate::audit::questions::{Asked, Question};
-use crate::audit::reach::Reach;
-use crate::xattrmap::{Side, XattrMapRef, XattrName};
+use crate::audit::question::Question;
+use crate::steps::Steps;
+use crate::xattrmap::{XattrMapRef, XattrName};
 use std::alloc::{AllocError, Allocator};
 
 /// What may be wrong with a name.
@@ -50,23 +50,9 @@ pub fn ask<A: Allocator + Copy>(
         → IfOk result (AnswersLeast
         (Within beginning.entry.bytes.now (HasFault fault rules others))) }
 {
+    let question = Question::new(alloc, fault, r, q, beginning)?;
     match fault {
-        NameFault::Lost => {
-            let asked = Asked::Lost(r);
-            least_guest_name(alloc, &Question { asked, beginning }, r, r, Side::Server)
-        }
-        NameFault::Stray => {
-            let asked = Asked::Stray(r);
-            least_host_name(alloc, &Question { asked, beginning }, r)
-        }
-        NameFault::Seen => {
-            let asked = Asked::Seen(r, q);
-            least_guest_name(alloc, &Question { asked, beginning }, r, q, Side::Server)
-        }
-        NameFault::Shared => {
-            let reach = Reach::new(alloc, q)?;
-            let asked = Asked::Shared(r, &reach);
-            least_guest_name(alloc, &Question { asked, beginning }, r, q, Side::Client)
-        }
+        NameFault::Stray => least_host_name(alloc, &question),
+        _ => least_guest_name(alloc, &question, &mut Steps::new()),
     }
 }

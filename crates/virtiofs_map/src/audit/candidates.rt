@@ -11,105 +11,74 @@
 //! The patterns that begin with a prepend stand together in the order of their bytes. So no more
 //! names are tried than the patterns have bytes, and rules that put the same before a name are one.
 
-ghost use Rattle.std.specs.Prelude.{◌≢◌, ◌<◌, ◌*◌, ◌++◌, ◌∷◌, List, All, Contains, IfOk, OnOk, length};
-ghost use Rattle.virtiofs_map.specs.AuditParts.{AreMaps, bad, Finds, FindsLeast, Tries, IsRestOf, IsRest};
-ghost use Rattle.virtiofs_map.specs.AuditParts.{guest_names, most_guest_names, host_names, IsWholeOf, IsWhole};
-ghost use Rattle.virtiofs_map.specs.AuditParts.{one_byte_names};
+ghost use Rattle.std.specs.Prelude.{◌≡◌, ◌≢◌, ◌<◌, ◌*◌, List, All, Contains, IfOk, OnErr, OnOk};
+ghost use Rattle.std.specs.Prelude.{length};
+ghost use Rattle.virtiofs_map.specs.Audit.{AnswersLeast};
+ghost use Rattle.virtiofs_map.specs.AuditParts.{IsAskedOf, IsBad, IsLiveWhole, IsOneByte, IsRest};
+ghost use Rattle.virtiofs_map.specs.AuditParts.{IsWhole};
+ghost use Rattle.virtiofs_map.specs.AuditParts.{LedTo, Tries, most_guest_names, other_rules};
+ghost use Rattle.virtiofs_map.specs.AuditParts.{side_of};
+ghost use Rattle.virtiofs_map.specs.GatheredParts.{AreOrdered};
 ghost use Rattle.virtiofs_map.specs.NamesImage.{IsMapOf};
 ghost use Rattle.virtiofs_map.specs.Rule.{MappingRule};
+ghost use Rattle.virtiofs_map.specs.Steps.{CountsBetween};
+ghost use Rattle.virtiofs_map.specs.declared.audit.asking.NameFault.TheVariants.{Stray};
 
 use crate::audit::answer::Audit;
 use crate::audit::gathered::{Part, gathered};
 use crate::audit::least::Tried;
-use crate::audit::ordered::Ordered;
-use crate::audit::questions::{Question, is_cut};
-use crate::xattrmap::{Side, XattrMapRef, XattrName};
+use crate::audit::ordered::{count_before, is_repeated};
+use crate::audit::question::Question;
+use crate::audit::questions::is_cut;
+use crate::steps::Steps;
+use crate::xattrmap::{Side, XattrMapRef, XattrName, XattrNameBuf};
 use std::alloc::{AllocError, Allocator};
 
-/// The least bad name of the guest, among those that the question is about: `map` passes
-/// names, and on that side the patterns of `other` for names of the host say what becomes of these.
-///
-/// The bytes with which all names begin are a name that may be the least, so they are tried too.
+/// The least bad name of the guest. The bytes with which all names begin are a name that may be the
+/// least, so they are tried too; the other names that are tried are counted.
 pub(crate) fn least_guest_name<A: Allocator + Copy>(
     alloc: A,
     question: &Question<'_, A>,
-    map: XattrMapRef<'_>,
-    other: XattrMapRef<'_>,
-    side: Side,
+    steps: &mut Steps,
 ) -> Result<Audit<A>, AllocError>
-    ensures { IfOk result (λ answer. (rules others : List MappingRule)
-        → IsMapOf rules map.entry → IsMapOf others other.entry → AreMaps question.now.asked
-        → FindsLeast (bad question.now) (question.now.beginning.bytes.now
-        ∷ guest_names side others rules ++ one_byte_names) answer) }
+    requires { question.now.fault ≢ Stray }
+    ensures answer { (rules others : List MappingRule) → IsAskedOf question.now rules others
+        → IfOk result (AnswersLeast (IsBad question.now rules others)) }
+    ensures counted { (rules others : List MappingRule) → IsAskedOf question.now rules others
+        → OnOk result (CountsBetween 1 (most_guest_names (side_of question.now.fault)
+        (other_rules question.now.fault rules others) rules) steps.old steps.new) }
+    ensures uncounted { OnErr result (steps.new ≡ steps.old) }
 {
     let mut tried = Tried::new(alloc);
-    tried.try_name(alloc, question, question.beginning)?;
-    try_guest_names(alloc, question, map, other, side, &mut tried)?;
+    tried.look_at(alloc, question, question.beginning)?;
+    let keys = gathered(alloc, question.map, Part::Key)?;
+    let all_added = gathered(alloc, question.map, Part::Added(Side::Client))?;
+    let patterns = gathered(alloc, question.other, Part::Host(question.side()))?;
+    try_rests_of(alloc, question, &keys, &[], &mut tried)?;
+    try_rests(alloc, question, &all_added, &patterns, &mut tried)?;
+    try_one_byte_names(alloc, question, &mut tried)?;
+    steps.add(tried.steps());
     Ok(tried.into_answer())
-}
-
-/// Tries the names of the guest that decide: `map` passes names, and on that side the patterns of
-/// `other` for names of the host say what becomes of these.
-pub(crate) fn try_guest_names<A: Allocator + Copy>(
-    alloc: A,
-    question: &Question<'_, A>,
-    map: XattrMapRef<'_>,
-    other: XattrMapRef<'_>,
-    side: Side,
-    tried: &mut Tried<A>,
-) -> Result<(), AllocError>
-    ensures tried { OnOk result ((rules others : List MappingRule)
-        → IsMapOf rules map.entry → IsMapOf others other.entry → AreMaps question.now.asked
-        → Tries (bad question.now) (Contains (guest_names side others rules ++ one_byte_names))
-        (most_guest_names side others rules) tried.old tried.new) }
-    ensures counted { OnOk result (0 < tried.new.count) }
-{
-    let keys = gathered(alloc, map, Part::Key)?;
-    let all_added = gathered(alloc, map, Part::Added(Side::Client))?;
-    let patterns = gathered(alloc, other, Part::Host(side))?;
-    try_all(alloc, question, &keys, tried)?;
-    try_rests(alloc, question, &all_added, &patterns, tried)?;
-    try_one_byte_names(alloc, question, tried)
-}
-
-/// Tries names.
-fn try_all<A: Allocator + Copy>(
-    alloc: A,
-    question: &Question<'_, A>,
-    names: &Ordered<A>,
-    tried: &mut Tried<A>,
-) -> Result<(), AllocError>
-    ensures { OnOk result (AreMaps question.now.asked
-        → Tries (bad question.now) (Contains names.now) (length names.now) tried.old tried.new) }
-{
-    for place in 0..names.len() {
-        let Some(name) = names.get(place) else {
-            continue;
-        };
-        tried.try_name(alloc, question, name)?;
-    }
-    Ok(())
 }
 
 /// Tries what is left of each pattern that begins with one of the added prefixes, after it.
 fn try_rests<A: Allocator + Copy>(
     alloc: A,
     question: &Question<'_, A>,
-    all_added: &Ordered<A>,
-    patterns: &Ordered<A>,
+    all_added: &[XattrNameBuf<A>],
+    patterns: &[XattrNameBuf<A>],
     tried: &mut Tried<A>,
 ) -> Result<(), AllocError>
-    ensures { OnOk result (AreMaps question.now.asked
-        → Tries (bad question.now) (IsRest all_added.now patterns.now)
+    requires { AreOrdered patterns.now }
+    ensures { OnOk result ((rules others : List MappingRule) → IsAskedOf question.now rules others
+        → Tries (IsBad question.now rules others) (LedTo all_added.now (IsRest patterns.now))
         (length all_added.now * length patterns.now) tried.old tried.new) }
 {
     for place in 0..all_added.len() {
-        if all_added.is_repeated(place) {
+        if is_repeated(all_added, place) {
             continue;
         }
-        let Some(added) = all_added.get(place) else {
-            continue;
-        };
+        let added = all_added[place].as_name();
         try_rests_of(alloc, question, patterns, added.bytes, tried)?;
     }
     Ok(())
@@ -119,19 +88,18 @@ fn try_rests<A: Allocator + Copy>(
 fn try_rests_of<A: Allocator + Copy>(
     alloc: A,
     question: &Question<'_, A>,
-    patterns: &Ordered<A>,
+    patterns: &[XattrNameBuf<A>],
     added: &[u8],
     tried: &mut Tried<A>,
 ) -> Result<(), AllocError>
-    ensures { OnOk result (AreMaps question.now.asked
-        → Tries (bad question.now) (IsRestOf patterns.now added.now)
+    requires { AreOrdered patterns.now }
+    ensures { OnOk result ((rules others : List MappingRule) → IsAskedOf question.now rules others
+        → Tries (IsBad question.now rules others) (IsRest patterns.now added.now)
         (length patterns.now) tried.old tried.new) }
 {
-    let start = patterns.count_before(added);
+    let start = count_before(patterns, added);
     for place in start..patterns.len() {
-        let Some(pattern) = patterns.get(place) else {
-            continue;
-        };
+        let pattern = patterns[place].as_name();
         if !pattern.bytes.starts_with(added) {
             return Ok(());
         }
@@ -141,69 +109,51 @@ fn try_rests_of<A: Allocator + Copy>(
     Ok(())
 }
 
-/// The least bad name of the host, among those that the question is about.
+/// The least bad name of the host.
 pub(crate) fn least_host_name<A: Allocator + Copy>(
     alloc: A,
     question: &Question<'_, A>,
-    map: XattrMapRef<'_>,
 ) -> Result<Audit<A>, AllocError>
-    ensures { IfOk result (λ answer. (rules : List MappingRule) → IsMapOf rules map.entry
-        → AreMaps question.now.asked
-        → FindsLeast (bad question.now) (question.now.beginning.bytes.now
-        ∷ host_names rules rules ++ one_byte_names) answer) }
+    requires { question.now.fault ≡ Stray }
+    ensures { (rules others : List MappingRule) → IsAskedOf question.now rules others
+        → IfOk result (AnswersLeast (IsBad question.now rules others)) }
 {
     let mut tried = Tried::new(alloc);
-    tried.try_name(alloc, question, question.beginning)?;
-    try_host_names(alloc, question, map, &mut tried)?;
+    tried.look_at(alloc, question, question.beginning)?;
+    let prepends = gathered(alloc, question.map, Part::Host(Side::Server))?;
+    let cuts = gathered(alloc, question.map, Part::Added(Side::Server))?;
+    let keys = gathered(alloc, question.map, Part::Key)?;
+    try_rests_of(alloc, question, &prepends, &[], &mut tried)?;
+    try_wholes(alloc, question, &cuts, &keys, &mut tried)?;
+    try_one_byte_names(alloc, question, &mut tried)?;
     Ok(tried.into_answer())
-}
-
-/// Tries the names of the host that decide.
-fn try_host_names<A: Allocator + Copy>(
-    alloc: A,
-    question: &Question<'_, A>,
-    map: XattrMapRef<'_>,
-    tried: &mut Tried<A>,
-) -> Result<(), AllocError>
-    ensures { OnOk result ((rules : List MappingRule) → IsMapOf rules map.entry
-        → AreMaps question.now.asked → Finds (bad question.now)
-        (Contains (host_names rules rules ++ one_byte_names)) tried.old tried.new) }
-{
-    let prepends = gathered(alloc, map, Part::Host(Side::Server))?;
-    let cuts = gathered(alloc, map, Part::Added(Side::Server))?;
-    let keys = gathered(alloc, map, Part::Key)?;
-    try_all(alloc, question, &prepends, tried)?;
-    try_wholes(alloc, question, map, &cuts, &keys, tried)?;
-    try_one_byte_names(alloc, question, tried)
 }
 
 /// Tries each key after each of the cuts, where the rules of the server take that cut off a name.
 fn try_wholes<A: Allocator + Copy>(
     alloc: A,
     question: &Question<'_, A>,
-    map: XattrMapRef<'_>,
-    cuts: &Ordered<A>,
-    keys: &Ordered<A>,
+    cuts: &[XattrNameBuf<A>],
+    keys: &[XattrNameBuf<A>],
     tried: &mut Tried<A>,
 ) -> Result<(), AllocError>
-    ensures { OnOk result ((rules : List MappingRule) → IsMapOf rules map.entry
-        → AreMaps question.now.asked
-        → Finds (bad question.now) (IsWhole rules cuts.now keys.now) tried.old tried.new) }
+    requires { AreOrdered keys.now }
+    ensures { OnOk result ((rules others : List MappingRule) → IsAskedOf question.now rules others
+        → Tries (IsBad question.now rules others) (LedTo cuts.now (IsLiveWhole rules keys.now))
+        (length cuts.now * length keys.now) tried.old tried.new) }
 {
     for place in 0..cuts.len() {
-        if cuts.is_repeated(place) {
+        if is_repeated(cuts, place) {
             continue;
         }
-        let Some(cut) = cuts.get(place) else {
-            continue;
-        };
-        if !is_cut(map, cut.bytes) {
+        let cut = cuts[place].as_name();
+        if !is_cut(question.map, cut.bytes) {
             continue;
         }
         if !question.may_begin_with(cut.bytes) {
             continue;
         }
-        try_wholes_of(alloc, question, cut.bytes, keys, tried)?;
+        try_wholes_of(alloc, question, cut, keys, tried)?;
     }
     Ok(())
 }
@@ -212,19 +162,17 @@ fn try_wholes<A: Allocator + Copy>(
 fn try_wholes_of<A: Allocator + Copy>(
     alloc: A,
     question: &Question<'_, A>,
-    cut: &[u8],
-    keys: &Ordered<A>,
+    cut: XattrName<'_>,
+    keys: &[XattrNameBuf<A>],
     tried: &mut Tried<A>,
 ) -> Result<(), AllocError>
-    requires { All (λ byte. byte ≢ 0) cut.now }
-    ensures { OnOk result (AreMaps question.now.asked
-        → Finds (bad question.now) (IsWholeOf cut.now keys.now) tried.old tried.new) }
+    requires { AreOrdered keys.now }
+    ensures { OnOk result ((rules others : List MappingRule) → IsAskedOf question.now rules others
+        → Tries (IsBad question.now rules others) (IsWhole keys.now cut.entry.bytes.now)
+        (length keys.now) tried.old tried.new) }
 {
     for place in 0..keys.len() {
-        let Some(key) = keys.get(place) else {
-            continue;
-        };
-        let whole = key.prefixed_with(alloc, XattrName { bytes: cut })?;
+        let whole = keys[place].as_name().prefixed_with(alloc, cut)?;
         let name = whole.as_name();
         if !tried.is_first(name) {
             return Ok(());
@@ -240,8 +188,9 @@ fn try_one_byte_names<A: Allocator + Copy>(
     question: &Question<'_, A>,
     tried: &mut Tried<A>,
 ) -> Result<(), AllocError>
-    ensures tried { OnOk result (AreMaps question.now.asked
-        → Tries (bad question.now) (Contains one_byte_names) 255 tried.old tried.new) }
+    ensures tried { OnOk result ((rules others : List MappingRule)
+        → IsAskedOf question.now rules others
+        → Tries (IsBad question.now rules others) IsOneByte 255 tried.old tried.new) }
     ensures counted { OnOk result (0 < tried.new.count) }
 {
     for byte in 1..=u8::MAX {

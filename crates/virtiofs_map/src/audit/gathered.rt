@@ -1,14 +1,13 @@
 //! What the rules of a map have of one kind, such as their keys, in the order of the bytes.
 
 ghost use Rattle.std.specs.List.Sorted.{IsPermutation};
-ghost use Rattle.std.specs.List.{filter_map};
 ghost use Rattle.std.specs.Prelude.{◌≡◌, ◌≢◌, List, All, IfOk, Some};
-ghost use Rattle.virtiofs_map.specs.GatheredParts.{part_of, host_pattern};
+ghost use Rattle.virtiofs_map.specs.AuditParts.{parts};
+ghost use Rattle.virtiofs_map.specs.GatheredParts.{AreOrdered, part_of, host_pattern};
 ghost use Rattle.virtiofs_map.specs.NamesImage.{IsMapOf};
 ghost use Rattle.virtiofs_map.specs.Rule.{HasNoZero, MappingRule};
 ghost use Rattle.virtiofs_map.specs.RuleParts.{rule_meant};
 
-use crate::audit::ordered::Ordered;
 use crate::xattrmap::rules::RuleRef;
 use crate::xattrmap::{Side, XattrMapRef, XattrName, XattrNameBuf};
 use std::alloc::{AllocError, Allocator};
@@ -92,9 +91,10 @@ pub(crate) fn gathered<A: Allocator + Copy>(
     alloc: A,
     map: XattrMapRef<'_>,
     part: Part,
-) -> Result<Ordered<A>, AllocError>
-    ensures { IfOk result (λ parts. (rules : List MappingRule) → IsMapOf rules map.entry
-        → IsPermutation (filter_map (part_of part) rules) parts) }
+) -> Result<Vec<XattrNameBuf<A>, A>, AllocError>
+    ensures parts { IfOk result (λ names. (rules : List MappingRule) → IsMapOf rules map.entry
+        → IsPermutation (parts part rules) names.items) }
+    ensures ordered { IfOk result (λ names. AreOrdered names.items) }
 {
     let mut names = Vec::new(alloc);
     for place in 0..map.len() {
@@ -106,5 +106,6 @@ pub(crate) fn gathered<A: Allocator + Copy>(
         };
         names.push(name)?;
     }
-    Ok(Ordered::new(names))
+    names.sort_unstable_by(|one, other| one.as_name().bytes.cmp(&other.as_name().bytes));
+    Ok(names)
 }

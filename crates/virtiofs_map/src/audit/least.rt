@@ -1,12 +1,13 @@
 //! The least bad name of those that were tried.
 
-ghost use Rattle.std.specs.Prelude.{◌≡◌, OnOk, All, option_to_list};
-ghost use Rattle.virtiofs_map.specs.AuditParts.{AreMaps, bad, none_tried, is_first, try_one, told};
-ghost use Rattle.virtiofs_map.specs.MapRule.{IsName};
+ghost use Rattle.std.specs.Prelude.{◌≡◌, OnOk, List};
+ghost use Rattle.virtiofs_map.specs.AuditParts.{IsAskedOf, IsBad, Tries, is_first, none_tried};
+ghost use Rattle.virtiofs_map.specs.AuditParts.{told};
+ghost use Rattle.virtiofs_map.specs.Rule.{MappingRule};
 ghost use Rattle.virtiofs_map.specs.Steps.{count_after};
 
 use crate::audit::answer::Audit;
-use crate::audit::questions::Question;
+use crate::audit::question::Question;
 use crate::steps::Steps;
 use crate::xattrmap::{XattrName, XattrNameBuf};
 use std::alloc::{AllocError, Allocator};
@@ -22,15 +23,11 @@ pub(crate) struct Tried<A: Allocator> {
 }
 
 impl<A: Allocator> Model for Tried<A> {
-    ghost use Rattle.std.specs.Prelude.{All, option_to_list};
     ghost use Rattle.virtiofs_map.specs.AuditParts.{TriedSoFar};
-    ghost use Rattle.virtiofs_map.specs.MapRule.{IsName};
 
     ghost Value = { TriedSoFar };
 
     ghost view = { λ tried. record { least = tried.least; count = tried.steps } };
-
-    ghost invariant = { λ tried. All IsName (option_to_list tried.least) };
 }
 
 impl<A: Allocator + Copy> Tried<A> {
@@ -45,21 +42,42 @@ impl<A: Allocator + Copy> Tried<A> {
         }
     }
 
-    /// Tries one more name, and keeps it if it is bad and comes before the least bad name so far.
+    /// Tries one more name, and counts it.
     pub(crate) fn try_name(
         &mut self,
         alloc: A,
         question: &Question<'_, A>,
         name: XattrName<'_>,
     ) -> Result<(), AllocError>
-        ensures tried { OnOk result (AreMaps question.now.asked
-            → self.new ≡ try_one (bad question.now) self.old name.entry.bytes.now) }
+        ensures tried { OnOk result ((rules others : List MappingRule)
+            → IsAskedOf question.now rules others → Tries (IsBad question.now rules others)
+            (λ one. one ≡ name.entry.bytes.now) 1 self.old self.new) }
         ensures counted { OnOk result (self.new.count ≡ count_after self.old.count 1) }
     {
         self.steps.tick();
-        if self.is_first(name) && question.is_bad(&mut self.room, name.bytes)? {
-            self.least = Some(XattrNameBuf::copy_of(alloc, name.bytes)?);
+        self.look_at(alloc, question, name)
+    }
+
+    /// Tries one more name, and does not count it: keeps it if it is bad and comes before the least
+    /// bad name so far.
+    pub(crate) fn look_at(
+        &mut self,
+        alloc: A,
+        question: &Question<'_, A>,
+        name: XattrName<'_>,
+    ) -> Result<(), AllocError>
+        ensures tried { OnOk result ((rules others : List MappingRule)
+            → IsAskedOf question.now rules others → Tries (IsBad question.now rules others)
+            (λ one. one ≡ name.entry.bytes.now) 0 self.old self.new) }
+        ensures uncounted { OnOk result (self.new.count ≡ self.old.count) }
+    {
+        if !self.is_first(name) {
+            return Ok(());
         }
+        if !question.is_bad(&mut self.room, name.bytes)? {
+            return Ok(());
+        }
+        self.least = Some(XattrNameBuf::copy_of(alloc, name.bytes)?);
         Ok(())
     }
 
@@ -73,7 +91,7 @@ impl<A: Allocator + Copy> Tried<A> {
         }
     }
 
-    /// How many names were tried.
+    /// How many names were counted.
     pub(crate) fn steps(&self) -> &Steps
         ensures { result.now ≡ self.now.count }
     {
@@ -82,8 +100,7 @@ impl<A: Allocator + Copy> Tried<A> {
 
     /// The answer, once all names that need to be tried were tried.
     pub(crate) fn into_answer(self) -> Audit<A>
-        ensures found { told result ≡ self.least }
-        ensures name { All IsName (option_to_list self.least) }
+        ensures { told result ≡ self.least }
     {
         let Tried {
             least,

@@ -1,74 +1,127 @@
 //! What an audit asks of a name.
 
-ghost use Rattle.std.specs.Prelude.{◌≡◌, ◌++◌, false, ℕ, List, Some, None, MatchOption, IfOk, OnOk, IsFalse};
-ghost use Rattle.virtiofs_map.specs.AuditParts.{added_prefix, is_lost, is_hidden, is_seen, is_shared, is_cut};
-ghost use Rattle.virtiofs_map.specs.GatheredParts.{added_prefix_of};
-ghost use Rattle.virtiofs_map.specs.AuditParts.{is_stray, IsReachOf};
+ghost use Rattle.std.specs.List.Sorted.{IsPermutation};
+ghost use Rattle.std.specs.Prelude.{◌≡◌, ◌++◌, ◌↔◌, ◌≢◌, All, ℕ, List, Some, None, MatchOption};
+ghost use Rattle.std.specs.Prelude.{IfOk, OnOk, IsFalse, IsTrue};
+ghost use Rattle.virtiofs_map.specs.Audit.{IsLost, IsSeen, IsShared, IsStray};
+ghost use Rattle.virtiofs_map.specs.AuditParts.{IsCut, added_prefix, is_hidden, other_rules, parts};
+ghost use Rattle.virtiofs_map.specs.GatheredParts.{AreOrdered, added_prefix_of};
+ghost use Rattle.virtiofs_map.specs.MapRule.{IsName};
 ghost use Rattle.virtiofs_map.specs.NamesImage.{IsMapOf};
 ghost use Rattle.virtiofs_map.specs.Rule.{MappingRule};
 ghost use Rattle.virtiofs_map.specs.RuleParts.{rule_meant};
+ghost use Rattle.virtiofs_map.specs.declared.audit.gathered.Part.TheVariants.{Added};
+ghost use Rattle.virtiofs_map.specs.declared.xattrmap.scopes.Side.TheVariants.{Client};
 
-use crate::audit::reach::Reach;
+use crate::audit::asking::NameFault;
+use crate::audit::gathered::{Part, gathered};
+use crate::audit::question::Question;
+use crate::audit::reach::is_reached;
 use crate::xattrmap::image::Decision;
 use crate::xattrmap::rules::{RuleKind, RuleRef};
-use crate::xattrmap::{Side, XattrMapRef, XattrName};
+use crate::xattrmap::{Side, XattrMapRef, XattrName, XattrNameBuf};
 use std::alloc::{AllocError, Allocator};
 
-/// What an audit asks about one name. If the answer is yes, the name is bad, and the audit as a
-/// whole answers `No`.
-#[derive(Drop)]
-pub(crate) enum Asked<'m, A: Allocator> {
-    /// Does the name pass without being listed back?
-    Lost(XattrMapRef<'m>),
-    /// Does the name pass by the first map as a name that the second does not hide?
-    Seen(XattrMapRef<'m>, XattrMapRef<'m>),
-    /// Does the name pass by the first map as a name that the second reaches?
-    Shared(XattrMapRef<'m>, &'m Reach<'m, A>),
-    /// Is this name of the host listed under a name that does not pass as it?
-    Stray(XattrMapRef<'m>),
-}
-
-impl<A: Allocator> Asked<'_, A> {
-    ghost use Rattle.virtiofs_map.specs.AuditParts.{AreMaps, holds_of};
-
-    /// Whether the answer is yes for the name. `room` is where a name of the host is put together.
-    fn holds_of(&self, room: &mut Vec<u8, A>, name: &[u8]) -> Result<bool, AllocError>
-        ensures { IfOk result (λ answer. AreMaps self.now → answer ≡ holds_of self.now name.now) }
-    {
-        match self {
-            Asked::Lost(map) => is_lost(*map, room, name),
-            Asked::Seen(map, other) => is_seen(*map, *other, room, name),
-            Asked::Shared(map, other) => is_shared(*map, other, room, name),
-            Asked::Stray(map) => Ok(is_stray(*map, name)),
-        }
+/// The map whose rules say what becomes of names of the host.
+fn other_of<'m>(fault: NameFault, r: XattrMapRef<'m>, q: XattrMapRef<'m>) -> XattrMapRef<'m>
+    ensures { (rules others : List MappingRule) → IsMapOf rules r.entry → IsMapOf others q.entry
+        → IsMapOf (other_rules fault rules others) result }
+{
+    match fault {
+        NameFault::Lost | NameFault::Stray => r,
+        NameFault::Seen | NameFault::Shared => q,
     }
 }
 
-/// What an audit asks of the names that begin with these bytes. A name is bad where it does and the
-/// answer is yes.
-#[derive(Drop)]
-pub(crate) struct Question<'m, A: Allocator> {
-    pub(crate) asked: Asked<'m, A>,
-    pub(crate) beginning: XattrName<'m>,
+/// What the rules of the map for the client put before names, if that has to be known.
+fn added_by<A: Allocator + Copy>(
+    alloc: A,
+    fault: NameFault,
+    map: XattrMapRef<'_>,
+) -> Result<Vec<XattrNameBuf<A>, A>, AllocError>
+    ensures parts { IfOk result (λ names. fault ≡ NameFault.Shared → (rules : List MappingRule)
+        → IsMapOf rules map.entry → IsPermutation (parts (Added Client) rules) names.items) }
+    ensures ordered { IfOk result (λ names. AreOrdered names.items) }
+{
+    match fault {
+        NameFault::Shared => gathered(alloc, map, Part::Added(Side::Client)),
+        _ => Ok(Vec::new(alloc)),
+    }
+}
+
+impl<'m, A: Allocator + Copy> Question<'m, A> {
+    ghost use Rattle.virtiofs_map.specs.AuditParts.{IsAskedOf};
+
+    /// Which names that begin with these bytes have the fault under the first map, where another
+    /// guest has the second.
+    pub(crate) fn new(
+        alloc: A,
+        fault: NameFault,
+        r: XattrMapRef<'m>,
+        q: XattrMapRef<'m>,
+        beginning: XattrName<'m>,
+    ) -> Result<Question<'m, A>, AllocError>
+        ensures fault { IfOk result (λ question. question.fault ≡ fault) }
+        ensures beginning { IfOk result (λ question. question.beginning ≡ beginning.entry) }
+        ensures asked { IfOk result (λ question. (rules others : List MappingRule)
+            → IsMapOf rules r.entry → IsMapOf others q.entry → IsAskedOf question rules others) }
+    {
+        let all_added = added_by(alloc, fault, q)?;
+        Ok(Question {
+            fault,
+            map: r,
+            other: other_of(fault, r, q),
+            all_added,
+            beginning,
+        })
+    }
 }
 
 impl<A: Allocator> Question<'_, A> {
-    ghost use Rattle.virtiofs_map.specs.AuditParts.{AreMaps, bad};
+    ghost use Rattle.virtiofs_map.specs.Audit.{HasFault};
+    ghost use Rattle.virtiofs_map.specs.AuditParts.{IsAskedOf, IsBad, side_of};
 
-    /// Whether the name is bad. `room` is where a name of the host is put together.
+    /// The side on which the patterns of the other map for names of the host count.
+    pub(crate) fn side(&self) -> Side
+        ensures { result ≡ side_of self.now.fault }
+    {
+        match self.fault {
+            NameFault::Shared => Side::Client,
+            _ => Side::Server,
+        }
+    }
+
+    /// Whether the name has the fault. `room` is where a name of the host is put together.
+    fn has_fault(&self, room: &mut Vec<u8, A>, name: &[u8]) -> Result<bool, AllocError>
+        ensures { IfOk result (λ answer. (rules others : List MappingRule)
+            → IsAskedOf self.now rules others → IsName name.now
+            → IsTrue answer ↔ HasFault self.now.fault rules others name.now) }
+    {
+        match self.fault {
+            NameFault::Lost => is_lost(self.map, room, name),
+            NameFault::Stray => Ok(is_stray(self.map, name)),
+            NameFault::Seen => is_seen(self.map, self.other, room, name),
+            NameFault::Shared => is_shared(self.map, self.other, &self.all_added, room, name),
+        }
+    }
+
+    /// Whether the name is one that is asked for.
     pub(crate) fn is_bad(&self, room: &mut Vec<u8, A>, name: &[u8]) -> Result<bool, AllocError>
-        ensures { IfOk result (λ answer. AreMaps self.now.asked → answer ≡ bad self.now name.now) }
+        requires { All (λ byte. byte ≢ 0) name.now }
+        ensures { IfOk result (λ answer. (rules others : List MappingRule)
+            → IsAskedOf self.now rules others
+            → IsTrue answer ↔ IsBad self.now rules others name.now) }
     {
         if !name.starts_with(self.beginning.bytes) {
             return Ok(false);
         }
-        self.asked.holds_of(room, name)
+        self.has_fault(room, name)
     }
 
-    /// Whether a name that begins with these bytes may be one that the question is about.
+    /// Whether the question may be about a name that begins with these bytes.
     pub(crate) fn may_begin_with(&self, bytes: &[u8]) -> bool
-        ensures { IsFalse result → (rest : List ℕ)
-            → bad self.now (bytes.now ++ rest) ≡ false }
+        ensures { IsFalse result → (rules others : List MappingRule) (rest : List ℕ)
+            → ¬ IsBad self.now rules others (bytes.now ++ rest) }
     {
         let beginning = self.beginning.bytes;
         if bytes.starts_with(beginning) {
@@ -127,7 +180,7 @@ fn is_lost<A: Allocator>(
     name: &[u8],
 ) -> Result<bool, AllocError>
     ensures { IfOk result (λ answer. (rules : List MappingRule) → IsMapOf rules map.entry
-        → answer ≡ is_lost rules name.now) }
+        → IsName name.now → IsTrue answer ↔ IsLost rules name.now) }
 {
     if name.is_empty() {
         return Ok(false);
@@ -136,7 +189,8 @@ fn is_lost<A: Allocator>(
         return Ok(false);
     };
     put_together(room, added, name)?;
-    let Some(cut) = added_prefix(map, Side::Server, room.as_slice()) else {
+    let host = room.as_slice();
+    let Some(cut) = added_prefix(map, Side::Server, host) else {
         return Ok(true);
     };
     Ok(cut.len() != added.len())
@@ -160,38 +214,49 @@ fn is_seen<A: Allocator>(
 ) -> Result<bool, AllocError>
     ensures { IfOk result (λ answer. (rules others : List MappingRule)
         → IsMapOf rules map.entry → IsMapOf others other.entry
-        → answer ≡ is_seen rules others name.now) }
+        → IsName name.now → IsTrue answer ↔ IsSeen rules others name.now) }
 {
     let Some(added) = added_prefix(map, Side::Client, name) else {
         return Ok(false);
     };
     put_together(room, added, name)?;
     let host = room.as_slice();
-    Ok(!host.is_empty() && !is_hidden(other, host))
+    if host.is_empty() {
+        return Ok(false);
+    }
+    Ok(!is_hidden(other, host))
 }
 
-/// Whether the name passes by the first map as a name, not empty, that the second reaches.
+/// Whether the name passes by the first map as a name, not empty, that the second reaches, where
+/// `all_added` is what the second puts before names.
 fn is_shared<A: Allocator>(
     map: XattrMapRef<'_>,
-    other: &Reach<'_, A>,
+    other: XattrMapRef<'_>,
+    all_added: &[XattrNameBuf<A>],
     room: &mut Vec<u8, A>,
     name: &[u8],
 ) -> Result<bool, AllocError>
+    requires { AreOrdered all_added.now }
     ensures { IfOk result (λ answer. (rules others : List MappingRule)
-        → IsMapOf rules map.entry → IsReachOf others other.now
-        → answer ≡ is_shared rules others name.now) }
+        → IsMapOf rules map.entry → IsMapOf others other.entry
+        → IsPermutation (parts (Added Client) others) all_added.now
+        → IsName name.now → IsTrue answer ↔ IsShared rules others name.now) }
 {
     let Some(added) = added_prefix(map, Side::Client, name) else {
         return Ok(false);
     };
     put_together(room, added, name)?;
     let host = room.as_slice();
-    Ok(!host.is_empty() && other.reaches(host))
+    if host.is_empty() {
+        return Ok(false);
+    }
+    Ok(is_reached(other, all_added, host))
 }
 
 /// Whether the server's rules take that off a name of the host, from one that begins with it.
 pub(crate) fn is_cut(map: XattrMapRef<'_>, cut: &[u8]) -> bool
-    ensures { (rules : List MappingRule) → IsMapOf rules map.entry → result ≡ is_cut rules cut.now }
+    ensures { (rules : List MappingRule) → IsMapOf rules map.entry
+        → IsTrue result ↔ IsCut rules cut.now }
 {
     if cut.is_empty() {
         return true;
@@ -205,7 +270,7 @@ pub(crate) fn is_cut(map: XattrMapRef<'_>, cut: &[u8]) -> bool
 /// Whether the name of the host, not empty, is listed under a name that does not pass as it.
 fn is_stray(map: XattrMapRef<'_>, host: &[u8]) -> bool
     ensures { (rules : List MappingRule) → IsMapOf rules map.entry
-        → result ≡ is_stray rules host.now }
+        → IsName host.now → IsTrue result ↔ IsStray rules host.now }
 {
     if host.is_empty() {
         return false;

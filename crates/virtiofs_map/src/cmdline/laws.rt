@@ -29,6 +29,7 @@ pub fn one_fault()
 
 /// The printed form of a specification whose numbers are below 2^32, as those of every
 /// [`IdMap`](super::IdMap) are, is a text that means that specification.
+#[tactic(auto, using(crate::proofs::PrintedLemmas::specification_printed))]
 pub fn reads_back()
     ensures { (spec : IdMap) → All (λ n. n < 2 ^ 32) (numbers_of spec)
         → Says (chars (specification_text spec)) spec }

@@ -35,6 +35,7 @@ fn is_word_character(c: char) -> bool
 
 /// Cuts off the longest prefix of word characters, and the separator after it; `None` where there
 /// is no separator.
+#[tactic(auto, using(crate::proofs::SpecificationLemmas::read_prefix))]
 fn cut_prefix<A: Allocator>(alloc: A, text: &str) -> Result<Option<Cut<'_, A>>, AllocError>
     ensures none { IfOk result (λ o. IfNone o (HasNoSeparator (chars text.now))) }
     ensures cut { IfOk result (λ o. IfSome o (λ cut.
@@ -74,6 +75,7 @@ fn read_field<A: Allocator>(alloc: A, field: &str) -> Result<u32, IdMapError<A>>
 }
 
 /// Reads the numbers between the separators.
+#[tactic(auto, using(crate::proofs::SpecificationLemmas::fields))]
 fn read_fields<A: Allocator + Copy>(
     alloc: A,
     separator: char,
@@ -196,6 +198,7 @@ fn specification<A: Allocator>(word: String<A>, numbers: &[u32]) -> Result<IdMap
 }
 
 /// Reads a text: its prefix, then its numbers, and then what the two say.
+#[tactic(auto, using(crate::proofs::SpecificationLemmas::read_words))]
 fn read<A: Allocator + Copy>(alloc: A, text: &str) -> Result<IdMap, IdMapError<A>>
     ensures read { IfOk result (λ spec. Says (chars text.now) spec) }
     ensures refused { IfErr result (λ e.

@@ -29,6 +29,7 @@ pub fn one_fault()
 
 /// The printed form of three numbers below 2^32, as those of every range are, is a text that means
 /// the range of these numbers.
+#[tactic(auto, using(crate::proofs::PrintedLemmas::namespace_printed))]
 pub fn reads_back()
     ensures { (inside outside count : ℕ)
         → inside < 2 ^ 32 → outside < 2 ^ 32 → count < 2 ^ 32

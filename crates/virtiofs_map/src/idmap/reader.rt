@@ -46,6 +46,7 @@ fn enclosed(text: &str) -> Result<(char, &str), IdMapError>
 }
 
 /// The fields of a text, where there are three.
+#[tactic(auto, using(crate::proofs::NamespaceLemmas::fields))]
 fn three_fields(delimiter: char, inner: &str) -> Option<Fields<'_>>
     ensures three { IfSome result (λ fields.
         IsThreeFields delimiter (chars inner.now)
@@ -66,6 +67,7 @@ fn three_fields(delimiter: char, inner: &str) -> Option<Fields<'_>>
 
 impl Range {
     /// Reads a range.
+    #[tactic(auto, using(crate::proofs::NamespaceLemmas::parts))]
     pub(super) fn from_str(text: &str) -> Result<Range, IdMapError>
         ensures read { IfOk result (λ range.
             SaysNamespace (chars text.now) range.inside range.outside range.count) }

@@ -1,53 +1,52 @@
 //! The words of a map, made of a list of specifications, or the first fault of the list.
-ghost use Rattle.std.specs.Prelude.{◌↔◌, ◌≤◌, All, IsTrue, MatchResult, length, take};
-ghost use Rattle.virtiofs_map.specs.Mapping.{entry_of};
-ghost use Rattle.virtiofs_map.specs.Build.{Accepted, Fits, HasFirstFault, build_fault_of};
-ghost use Rattle.virtiofs_map.specs.BuildParts.{EntryMeets, EntryMeetsEarlier, IsFaultHere};
+ghost use Rattle.std.specs.Prelude.{◌↔◌, ◌<◌, ◌≤◌, All, IsTrue, MatchResult, length, take};
+ghost use Rattle.virtiofs_map.specs.Build.{Accepted, Meet, MeetsEarlier, Fits, IsReached, HasFirstFault, build_fault_of};
 ghost use Rattle.virtiofs_map.specs.Image.{IsImage};
 ghost use Rattle.virtiofs_map.specs.RangeParts.{AreSorted, AreSortedBothWays, HasRoom, HasRoomBothWays, IsLongestAccepted};
 ghost use Rattle.virtiofs_map.specs.Refusal.{OutOfMemoryOr};
 ghost use Rattle.virtiofs_map.specs.declared.soft_idmap.entry.Direction.TheVariants.{GuestToHost, HostToGuest};
 
-use super::entry::{Entry, entry_of};
+use super::entry::entry_of;
 use super::indexed::{IndexedEntry, keep_apart, sorted_entries};
 use super::write::write_words;
 use super::{Direction, IdMapBuildError, RangeEnd};
 use crate::cmdline::IdMap;
 use std::alloc::Allocator;
 
-/// Whether an entry covers a number that a specification covers in that direction.
-fn meets(entry: Entry, other: IdMap, direction: Direction) -> bool
-    ensures { IsTrue result ↔ EntryMeets entry other direction }
+/// Whether both specifications cover some number in that direction.
+fn meet(spec: IdMap, other: IdMap, direction: Direction) -> bool
+    ensures { IsTrue result ↔ Meet spec other direction }
 {
-    match entry_of(other, direction) {
-        Some(other) => entry.meets(other),
-        None => false,
+    match (entry_of(spec, direction), entry_of(other, direction)) {
+        (Some(entry), Some(other)) => entry.meets(other),
+        _ => false,
     }
 }
 
-/// Whether an entry covers a number that one of the earlier specifications covers in that
-/// direction.
-fn meets_earlier(entry: Entry, earlier: &[IdMap], direction: Direction) -> bool
-    ensures { IsTrue result ↔ EntryMeetsEarlier entry earlier.now direction }
+/// Whether one of the earlier specifications covers a number that this one covers too.
+fn meets_earlier(earlier: &[IdMap], spec: IdMap, direction: Direction) -> bool
+    ensures { IsTrue result ↔ MeetsEarlier earlier.now spec direction }
 {
     for other in earlier {
-        if meets(entry, *other, direction) {
+        if meet(spec, *other, direction) {
             return true;
         }
     }
     false
 }
 
-/// Tests a specification in one direction, after the earlier ones.
+/// Tests a specification in one direction, where the tests of the list come to it.
 fn check_direction(
-    earlier: &[IdMap],
+    specs: &[IdMap],
     spec: IdMap,
     index: usize,
     direction: Direction,
 ) -> Result<(), IdMapBuildError>
+    requires within { index < length specs.now }
+    requires reached { IsReached specs.now spec index direction }
     ensures { MatchResult result
-        (λ _. Fits earlier.now spec direction)
-        (λ e. OutOfMemoryOr (build_fault_of e) (IsFaultHere earlier.now spec index direction)) }
+        (λ _. Fits (take index specs.now) spec direction)
+        (λ e. OutOfMemoryOr (build_fault_of e) (HasFirstFault specs.now)) }
 {
     let Some(entry) = entry_of(spec, direction) else {
         return Ok(());
@@ -60,7 +59,7 @@ fn check_direction(
             range_end: RangeEnd::Source,
         });
     }
-    if meets_earlier(entry, earlier, direction) {
+    if meets_earlier(&specs[..index], spec, direction) {
         return Err(IdMapBuildError::Intersects {
             spec,
             index,
@@ -145,6 +144,7 @@ fn longest_accepted(specs: &[IdMap], guests: &[IndexedEntry], hosts: &[IndexedEn
 }
 
 /// Finds the first fault of a list of specifications.
+#[tactic(auto, using(crate::proofs::BuildLemmas::grown))]
 fn check(
     specs: &[IdMap],
     guests: &[IndexedEntry],
@@ -160,10 +160,9 @@ fn check(
         return Ok(());
     }
     let index = longest_accepted(specs, guests, hosts);
-    let earlier = &specs[..index];
     let spec = specs[index];
-    check_direction(earlier, spec, index, Direction::GuestToHost)?;
-    check_direction(earlier, spec, index, Direction::HostToGuest)?;
+    check_direction(specs, spec, index, Direction::GuestToHost)?;
+    check_direction(specs, spec, index, Direction::HostToGuest)?;
     Ok(())
 }
 

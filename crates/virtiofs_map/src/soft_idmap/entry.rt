@@ -51,60 +51,46 @@ pub fn entry_of(spec: IdMap, direction: Direction) -> Option<Entry>
     ensures { result ≡ entry_of spec direction }
 {
     match direction {
-        Direction::GuestToHost => guest_entry(spec),
-        Direction::HostToGuest => host_entry(spec),
-    }
-}
-
-/// What a specification sets up for guest ids, where it acts on them.
-fn guest_entry(spec: IdMap) -> Option<Entry>
-    ensures { result ≡ entry_of spec Direction.GuestToHost }
-{
-    match spec {
-        IdMap::Guest {
-            from_guest: first,
-            to_host: to,
-            count,
-        } => Some(Entry::Map { first, to, count }),
-        IdMap::SquashGuest {
-            from_guest: first,
-            to_host: to,
-            count,
-        } => Some(Entry::Squash { first, to, count }),
-        IdMap::Bidirectional {
-            guest: first,
-            host: to,
-            count,
-        } => Some(Entry::Map { first, to, count }),
-        IdMap::ForbidGuest {
-            from_guest: first,
-            count,
-        } => Some(Entry::Fail { first, count }),
-        _ => None,
-    }
-}
-
-/// What a specification sets up for host ids, where it acts on them.
-fn host_entry(spec: IdMap) -> Option<Entry>
-    ensures { result ≡ entry_of spec Direction.HostToGuest }
-{
-    match spec {
-        IdMap::Host {
-            from_host: first,
-            to_guest: to,
-            count,
-        } => Some(Entry::Map { first, to, count }),
-        IdMap::SquashHost {
-            from_host: first,
-            to_guest: to,
-            count,
-        } => Some(Entry::Squash { first, to, count }),
-        IdMap::Bidirectional {
-            guest: to,
-            host: first,
-            count,
-        } => Some(Entry::Map { first, to, count }),
-        _ => None,
+        Direction::GuestToHost => match spec {
+            IdMap::Guest {
+                from_guest: first,
+                to_host: to,
+                count,
+            } => Some(Entry::Map { first, to, count }),
+            IdMap::SquashGuest {
+                from_guest: first,
+                to_host: to,
+                count,
+            } => Some(Entry::Squash { first, to, count }),
+            IdMap::Bidirectional {
+                guest: first,
+                host: to,
+                count,
+            } => Some(Entry::Map { first, to, count }),
+            IdMap::ForbidGuest {
+                from_guest: first,
+                count,
+            } => Some(Entry::Fail { first, count }),
+            _ => None,
+        },
+        Direction::HostToGuest => match spec {
+            IdMap::Host {
+                from_host: first,
+                to_guest: to,
+                count,
+            } => Some(Entry::Map { first, to, count }),
+            IdMap::SquashHost {
+                from_host: first,
+                to_guest: to,
+                count,
+            } => Some(Entry::Squash { first, to, count }),
+            IdMap::Bidirectional {
+                guest: to,
+                host: first,
+                count,
+            } => Some(Entry::Map { first, to, count }),
+            _ => None,
+        },
     }
 }
 

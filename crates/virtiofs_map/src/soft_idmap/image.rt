@@ -37,6 +37,7 @@ pub fn most_words(specs: usize) -> usize
 /// unchanged. The faults of a list, and the order in which they are found, are those of
 /// [`super::IdMap::try_from`]. If an allocation fails, the error is
 /// [`IdMapBuildError::OutOfMemory`].
+#[tactic(auto, using(crate::proofs::WrittenLemmas::image_written))]
 pub fn write_image<A: Allocator + Copy>(
     alloc: A,
     specs: &[IdMap],

@@ -1,7 +1,7 @@
 //! A piece and the numbers after it that are of the same piece.
-ghost use Rattle.std.specs.Prelude.{◌≡◌, ◌+◌, ◌≤◌, Some, None, IfSome, IfNone};
+ghost use Rattle.std.specs.Prelude.{◌≡◌, ◌+◌, ◌≤◌, IfSome, IfNone};
 ghost use Rattle.virtiofs_map.specs.PieceParts.{CanJoin, Joins};
-ghost use Rattle.virtiofs_map.specs.Pieces.{value_in, IsNamed};
+ghost use Rattle.virtiofs_map.specs.Pieces.{IsNamed};
 
 use super::piece::Piece;
 
@@ -16,41 +16,15 @@ pub(crate) fn join(piece: Piece, more: Piece) -> Option<Piece>
     ensures some { IfSome result (Joins piece more) }
     ensures none { IfNone result (¬ CanJoin piece more) }
 {
-    match piece.start() {
-        Some(to) => join_mapped(piece, to, more),
-        None => join_forbidden(piece, more),
-    }
-}
-
-/// Joins a piece whose numbers fail with the one after it, as [`join`] does.
-fn join_forbidden(piece: Piece, more: Piece) -> Option<Piece>
-    requires follows { more.first ≡ piece.last + 1 }
-    requires order { piece.first ≤ piece.last }
-    requires forbidden { None ≡ value_in piece piece.first }
-    requires more_order { more.first ≤ more.last }
-    ensures some { IfSome result (Joins piece more) }
-    ensures none { IfNone result (¬ CanJoin piece more) }
-{
-    if more.start().is_some() {
-        return None;
-    }
-    Some(Piece {
-        last: more.last,
-        ..piece
-    })
-}
-
-/// Joins a piece whose first number becomes `to` with the one after it, as [`join`] does.
-fn join_mapped(piece: Piece, to: u32, more: Piece) -> Option<Piece>
-    requires follows { more.first ≡ piece.last + 1 }
-    requires order { piece.first ≤ piece.last }
-    requires named { IsNamed piece.becomes piece.first piece.last }
-    requires mapped { Some to ≡ value_in piece piece.first }
-    requires more_order { more.first ≤ more.last }
-    requires more_named { IsNamed more.becomes more.first more.last }
-    ensures some { IfSome result (Joins piece more) }
-    ensures none { IfNone result (¬ CanJoin piece more) }
-{
+    let Some(to) = piece.start() else {
+        if more.start().is_some() {
+            return None;
+        }
+        return Some(Piece {
+            last: more.last,
+            ..piece
+        });
+    };
     let Some(next) = more.start() else {
         return None;
     };

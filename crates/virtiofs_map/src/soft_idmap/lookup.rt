@@ -19,6 +19,7 @@ use crate::Steps;
 ///
 /// Each reading of a range is a step. With one range there is nothing to search, and it is read.
 #[inline(always)]
+#[tactic(auto, using(crate::proofs::WordLemmas::searched))]
 pub(crate) fn last_from(ranges: &Ranges<'_>, n: u32, steps: &mut Steps) -> Last
     requires { 1 ≤ ranges.now.count }
     ensures within { result.index < ranges.now.count }
@@ -44,6 +45,7 @@ pub(crate) fn last_from(ranges: &Ranges<'_>, n: u32, steps: &mut Steps) -> Last
 
 /// What the ranges say of a number. With no range the number stays itself.
 #[inline(always)]
+#[tactic(auto, using(crate::proofs::WordLemmas::looked_up))]
 pub(crate) fn look_up(ranges: &Ranges<'_>, n: u32, steps: &mut Steps) -> Answer
     ensures says { (specs : List Specification) (direction : Direction)
         → HasRanges specs direction ranges.now → SaysIn specs direction n result }

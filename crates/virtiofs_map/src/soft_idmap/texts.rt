@@ -10,6 +10,7 @@ use std::alloc::Allocator;
 /// Reads the texts in order, and stops at the first one that cannot be read.
 ///
 /// The error names that text by its place in the list, from 0.
+#[tactic(auto, using(crate::proofs::SpecificationsLemmas::all_said))]
 pub(crate) fn read_all<A: Allocator + Copy>(
     alloc: A,
     texts: &[&str],

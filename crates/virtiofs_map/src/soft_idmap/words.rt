@@ -120,6 +120,7 @@ impl<'m> IdMapRef<'m> {
     /// What a number becomes in a direction; `None` where its use fails, or where the words are no
     /// image.
     #[inline(always)]
+    #[tactic(auto, using(crate::proofs::WordLemmas::what_is_said))]
     pub fn becomes(&self, direction: Direction, n: u32) -> Option<u32>
         ensures { (specs : List Specification) → IsImage specs self.now
             → Becomes specs direction n result }

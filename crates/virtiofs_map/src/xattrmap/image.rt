@@ -74,6 +74,7 @@ pub enum ListWritten {
 /// The most bytes that the image of a map has that was read from a text of that many bytes.
 ///
 /// If the result does not fit into `usize`, it is [`usize::MAX`]. No text can be that long.
+#[tactic(auto, using(crate::proofs::xattrmap::image::ImageLengthLemmas::image_enough))]
 pub fn most_bytes(text_len: usize) -> usize
     ensures value { result ≡ min (512 + 64 * text_len) 18446744073709551615 }
     ensures enough { (text : List ℕ) (rules : List MappingRule) → IsUtf8 text

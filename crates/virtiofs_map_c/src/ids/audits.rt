@@ -8,8 +8,7 @@ ghost use Rattle.virtiofs_map_c.specs.Faults.{no_fault};
 ghost use Rattle.virtiofs_map_c.specs.IdsFound.{TellsAudit, TellsReach, IsAstrayTold, IsSharedTold, IsReachTold, IsMeetingTold, HasPairFault, IsWritten};
 ghost use Rattle.virtiofs_map_c.specs.Makes.{TellsFault, MakesOrTells, TellsThis, IsArrayTold, IsAccepted};
 
-use super::decided::{alone, apart, come_back, reach};
-use super::found::IdsFound;
+use super::decided::{IdsFound, alone, apart, come_back, reach};
 use crate::arrays::{Spec, tell};
 use crate::codes::OK;
 use crate::fault::Fault;
@@ -25,7 +24,6 @@ fn write(least: Option<IdsFound>, found: &mut IdsFound) -> bool
     least.is_some()
 }
 
-/// Whether each id comes back: what it becomes on the host becomes that id again.
 #[unsafe(no_mangle)]
 pub extern "C" fn virtiofs_map_ids_comes_back(
     alloc: Global,
@@ -58,7 +56,6 @@ pub extern "C" fn virtiofs_map_ids_comes_back(
     }
 }
 
-/// Whether each id has an id of the host of its own.
 #[unsafe(no_mangle)]
 pub extern "C" fn virtiofs_map_ids_is_alone(
     alloc: Global,
@@ -91,8 +88,6 @@ pub extern "C" fn virtiofs_map_ids_is_alone(
     }
 }
 
-/// Whether some id becomes an id of the host from `first` to `last`. A call that fails says that one
-/// may: whoever looks at the answer alone is then not told that none does.
 #[unsafe(no_mangle)]
 pub extern "C" fn virtiofs_map_ids_reaches(
     alloc: Global,
@@ -126,7 +121,6 @@ pub extern "C" fn virtiofs_map_ids_reaches(
     }
 }
 
-/// Whether no id of the host is reached by both guests.
 #[unsafe(no_mangle)]
 pub extern "C" fn virtiofs_map_ids_apart(
     alloc: Global,

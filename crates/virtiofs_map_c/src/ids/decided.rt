@@ -4,17 +4,29 @@ ghost use Rattle.virtiofs_map.specs.Build.{Accepted};
 ghost use Rattle.virtiofs_id_audit.specs.IdAudit.{IsAstray, ComesBack, IsShared, IsAlone, GoesInto, Between, ReachedBy, AreIdsApart};
 ghost use Rattle.virtiofs_map.specs.Refusal.{OutOfMemoryOr};
 ghost use Rattle.virtiofs_map_c.specs.Arrays.{AreSaid, HasArrayFault, array_fault_of};
-ghost use Rattle.virtiofs_map_c.specs.IdsFound.{FindsLeast, OfArray, OfArrays, IsAstrayTold, IsSharedTold, IsReachTold, IsMeetingTold, HasPairFault};
+ghost use Rattle.virtiofs_map_c.specs.IdsFound.{FindsLeast, OfArray, IsAstrayTold, IsSharedTold, IsReachTold, IsMeetingTold, HasPairFault};
 
-use super::found::IdsFound;
-use crate::arrays::{ArrayError, Spec, behind, read_all};
+use crate::arrays::{Spec, behind, read_all};
+use crate::errors::{ListError, UnknownKind};
 use std::alloc::Global;
 use virtiofs_id_audit::{IdAudit, comes_back, ids_apart, is_alone, reaches};
 use virtiofs_map::id_types::{GuestUid, HostUid, Id};
 use virtiofs_map::soft_idmap::IdMap;
 
+/// C's `struct virtiofs_ids_found`: the least id that shows an answer.
+#[repr(C)]
+#[derive(Clone, Copy)]
+pub struct IdsFound {
+    pub guest: u32,
+    pub host: u32,
+    pub other: u32,
+}
+
 /// A map of ids. (Users and groups are alike here.)
 type Ids = IdMap<GuestUid, HostUid>;
+
+/// Why nothing is decided of an array.
+type ArrayError = ListError<UnknownKind>;
 
 /// The map of an array.
 fn map_of(alloc: Global, specs: &[Spec]) -> Result<Ids, ArrayError>
@@ -113,9 +125,9 @@ fn meeting_at(map: &Ids, other: &Ids, guest: GuestUid) -> IdsFound
 /// The least id whose id of the host is reached under the map of the other array too. The faults of
 /// that array are told behind those of the first.
 pub fn apart(alloc: Global, specs: &[Spec], others: &[Spec]) -> Result<Option<IdsFound>, ArrayError>
-    ensures decided { IfOk result (λ least. OfArrays specs.now others.now (λ list other.
+    ensures decided { IfOk result (λ least. OfArray specs.now (λ list. OfArray others.now (λ other.
         FindsLeast (GoesInto list (ReachedBy other)) (IsMeetingTold list other) least
-        × ((least ≡ None) ↔ AreIdsApart list other))) }
+        × ((least ≡ None) ↔ AreIdsApart list other)))) }
     ensures refused { IfErr result (λ e.
         OutOfMemoryOr (array_fault_of e) (HasPairFault specs.now others.now)) }
 {

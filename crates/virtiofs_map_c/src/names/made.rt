@@ -8,14 +8,24 @@ ghost use Rattle.virtiofs_map_c.specs.Replies.{IsQuoted};
 ghost use Rattle.virtiofs_map.specs.RulesFault.{fault_at};
 ghost use Rattle.std.specs.Option.{option_map};
 
-use super::reading::ReadError;
 use crate::buffer::quote;
 use crate::bytes::clear;
 use crate::codes::{NO_MEMORY, NO_ROOM, OK, REFUSED, RULE};
 use crate::fault::Fault;
 use std::alloc::Global;
 use virtiofs_map::xattrmap::image::ImageWritten;
-use virtiofs_map::xattrmap::{ErrorKind, PatternField, XattrMap};
+use virtiofs_map::xattrmap::{Error, ErrorKind, PatternField, XattrMap};
+
+/// Why no map is made of a text: the first fault, or out of memory.
+#[derive(Drop)]
+pub enum ReadError {
+    /// The bytes are no text.
+    NotUtf8,
+    /// A request for memory was refused.
+    OutOfMemory,
+    /// The text is no text of rules, or a request for memory was refused.
+    Rules(Error),
+}
 
 /// Writes the map of a text, and tells how many bytes it has.
 pub fn made(

@@ -1,8 +1,8 @@
 //! What calls on values tell C.
-ghost use Rattle.std.specs.Prelude.{◌≡◌, ℕ};
+ghost use Rattle.std.specs.Prelude.{ℕ};
 ghost use Rattle.virtiofs_acl.specs.declared.errors.AclError.TheVariants.{Entry};
 ghost use Rattle.virtiofs_map_c.specs.Codes.{no_map};
-ghost use Rattle.virtiofs_map_c.specs.Values.{version_told, IsAclTold, IsCapabilityTold, IsCode, IsAnswerTold};
+ghost use Rattle.virtiofs_map_c.specs.Values.{IsAclTold, IsCapabilityTold, IsCode, IsAnswerTold};
 
 use crate::codes::{
     ACL_ENTRY, ACL_VALUE, CAPABILITY_VALUE, FORBIDDEN, MERGES, NO_ID, NO_MAP, NO_ROOM, OK, REFUSED,
@@ -18,16 +18,6 @@ pub fn tell_no_map(fault: &mut Fault) -> u32
     fault.set(NO_MAP, Fault::none())
 }
 
-/// A version, or a revision, that there is not.
-fn of_version(part: u32, version: u32) -> Fault
-    ensures { result ≡ version_told part version }
-{
-    Fault {
-        seen: version as usize,
-        ..Fault::plain(20, part, 0)
-    }
-}
-
 /// Tells what became of a list, for which room was lent for that many entries.
 pub fn tell_acl(answer: Result<(), AclError>, lent: usize, fault: &mut Fault) -> u32
     ensures { IsAnswerTold (IsAclTold lent) answer result fault.new }
@@ -35,15 +25,15 @@ pub fn tell_acl(answer: Result<(), AclError>, lent: usize, fault: &mut Fault) ->
     match answer {
         Ok(()) => fault.set(OK, Fault::none()),
         Err(AclError::TooShort) => fault.set(REFUSED, Fault::plain(19, ACL_VALUE, 0)),
-        Err(AclError::Version { version }) => fault.set(REFUSED, of_version(ACL_VALUE, version)),
+        Err(AclError::Version { version }) => {
+            fault.set(
+                REFUSED,
+                Fault::counted(20, ACL_VALUE, 0, 0, version as usize),
+            )
+        }
         Err(AclError::Length) => fault.set(REFUSED, Fault::plain(21, ACL_VALUE, 0)),
         Err(AclError::Room { needed }) => {
-            let told = Fault {
-                expected: needed,
-                seen: lent,
-                ..Fault::plain(22, ACL_VALUE, 0)
-            };
-            fault.set(NO_ROOM, told)
+            fault.set(NO_ROOM, Fault::counted(22, ACL_VALUE, 0, needed, lent))
         }
         Err(
             AclError::Entry {
@@ -75,7 +65,10 @@ pub fn tell_capability(answer: Result<(), CapabilityError>, fault: &mut Fault) -
         Ok(()) => fault.set(OK, Fault::none()),
         Err(CapabilityError::TooShort) => fault.set(REFUSED, Fault::plain(19, CAPABILITY_VALUE, 0)),
         Err(CapabilityError::Revision { revision }) => {
-            fault.set(REFUSED, of_version(CAPABILITY_VALUE, u32::from(revision)))
+            fault.set(
+                REFUSED,
+                Fault::counted(20, CAPABILITY_VALUE, 0, 0, revision as usize),
+            )
         }
         Err(CapabilityError::Length) => fault.set(REFUSED, Fault::plain(21, CAPABILITY_VALUE, 0)),
         Err(CapabilityError::NoId) => fault.set(NO_ID, Fault::plain(25, CAPABILITY_VALUE, 0)),

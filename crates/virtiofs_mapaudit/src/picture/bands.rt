@@ -1,7 +1,13 @@
-//! Bands: which ids of the guest and of the host belong together.
+//! Bands: which ids of the guest and of the host belong together, and which are at fault; and their
+//! drawing between two axes, with labels.
 
-use super::{Done, IdSet, Made};
+use super::IdSet;
+use crate::summary::Page;
+use crate::words::{Done, Found, Made};
 use std::alloc::Global;
+use virtiofs_findings::audit::is_accepted;
+use virtiofs_findings::finding::{Evidence, Kind};
+use virtiofs_findings::ids::kind::IdKind;
 use virtiofs_findings::setup::IdSetUp;
 use virtiofs_id_audit::outside::{Way, id_moved, moved_all};
 use virtiofs_id_audit::{Span, ids_into};
@@ -46,25 +52,50 @@ pub(super) struct Band {
 const MOST: usize = 1000;
 
 /// Whether an id is among ids.
-pub(super) fn has(ids: Span, id: u32) -> bool {
+fn has(ids: Span, id: u32) -> bool {
     ids.first <= id && id <= ids.last
 }
 
 /// Adds where ids begin and where they have ended. (The greatest number is no id.)
-pub(super) fn push_ends(numbers: &mut Vec<u32>, ids: Span) -> Done {
-    numbers.push(ids.first)?;
-    numbers.push(ids.last.saturating_add(1))?;
-    Ok(())
+fn push_ends(numbers: &mut Vec<u32>, ids: Span) -> Done {
+    numbers.extend_from_slice(&[ids.first, ids.last.saturating_add(1)])
 }
 
 /// The ids between each two of some numbers, in order.
-pub(super) fn between(alloc: Global, mut numbers: Vec<u32>) -> Made<Vec<Span>> {
+fn between(alloc: Global, mut numbers: Vec<u32>) -> Made<Vec<Span>> {
     let mut all = Vec::new(alloc);
     numbers.sort_unstable();
     numbers.dedup();
     for (first, past) in numbers.iter().zip(numbers.iter().skip(1)) {
         let (first, last) = (*first, past.saturating_sub(1));
         all.push(Span { first, last })?;
+    }
+    Ok(all)
+}
+
+/// The ids of a kind that are at fault by what is found of a guest and is not accepted, with looks that
+/// tell how.
+pub(super) fn faulty_of(page: &Page<'_>, kind: IdKind, found: &[Found]) -> Made<Vec<Band>> {
+    let mut all = Vec::new(page.alloc);
+    for finding in found {
+        let look = match finding.kind {
+            _ if is_accepted(page.accepted, finding.kind) => continue,
+            Kind::NotBack => Look::Astray,
+            Kind::Lacking => Look::Lacking,
+            Kind::Kept => Look::Uncovered,
+            Kind::Root => Look::Root,
+            _ => continue,
+        };
+        let found = match (&finding.evidence, kind) {
+            (Evidence::Ids { ids, found, .. }, _) if *ids == kind => Some(found),
+            (Evidence::BothIds(users, _), IdKind::Users) => users.as_ref(),
+            (Evidence::BothIds(_, groups), IdKind::Groups) => groups.as_ref(),
+            _ => None,
+        };
+        for ids in found.map_or([].as_slice(), |found| found.ids.as_slice()) {
+            let (guest, host) = (*ids, *ids);
+            all.push(Band { look, guest, host })?;
+        }
     }
     Ok(all)
 }
@@ -143,23 +174,18 @@ fn host_parts(alloc: Global, set: &IdSetUp<Global>, bands: &[Band]) -> Made<Vec<
     between(alloc, cuts)
 }
 
-/// Bands, or why there are none.
-type Bands = Result<Vec<Band>, &'static str>;
-
 /// The bands of the ids of a kind, of which some are at fault, or why there are none. Ids of the host have
 /// one where they do not come from the guest as what they become there.
-pub(super) fn bands_of(alloc: Global, set: &IdSet, faulty: &[Band]) -> Made<Bands> {
+pub(super) fn bands_of(
+    alloc: Global,
+    set: &IdSet,
+    faulty: &[Band],
+) -> Made<Result<Vec<Band>, &'static str>> {
     let (Some(set), mut all) = (set, Vec::new(alloc)) else {
         return Ok(Err("not told"));
     };
-    if set
-        .map
-        .specs()
-        .len()
-        .max(set.ranges.len())
-        .max(faulty.len())
-        > MOST
-    {
+    let most = set.ranges.len().max(faulty.len());
+    if set.map.specs().len().max(most) > MOST {
         return Ok(Err("too many ranges to draw"));
     }
     for guest in guest_parts(alloc, set, faulty)?.iter().take(MOST + 1) {
@@ -177,4 +203,90 @@ pub(super) fn bands_of(alloc: Global, set: &IdSet, faulty: &[Band]) -> Made<Band
         }
     }
     Ok(Ok(all))
+}
+
+/// How bands are painted, but for their look.
+pub(super) const BAND: &str = "fill-opacity='.85' stroke='#374151' stroke-opacity='.4'";
+
+/// Ids between two ends of bands, and how far below the top they begin and end.
+type Row = (Span, u64, u64);
+
+/// All rows, in order, with room for a label each. Long ones are compressed, so that short ones can be
+/// seen. Both sides have the same, so that ids which keep their number are level.
+fn rows_of(alloc: Global, bands: &[Band]) -> Made<Vec<Row>> {
+    let (mut numbers, mut rows, mut y) = (Vec::new(alloc), Vec::new(alloc), 12u64);
+    for band in bands {
+        push_ends(&mut numbers, band.guest)?;
+        push_ends(&mut numbers, band.host)?;
+    }
+    let all = between(alloc, numbers)?;
+    let stretch = (30 / (all.len() as u64).max(1)).min(3);
+    for ids in all {
+        let digits = u64::from(32 - ids.last.saturating_sub(ids.first).leading_zeros());
+        let height = digits.saturating_mul(stretch).saturating_add(16);
+        let bottom = y.saturating_add(height);
+        rows.push((ids, y, bottom))?;
+        y = bottom;
+    }
+    Ok(rows)
+}
+
+/// How far below the top ids begin and end.
+fn ends(rows: &[Row], ids: Span) -> (u64, u64) {
+    let (mut top, mut bottom) = (0, 0);
+    for (row, begin, end) in rows {
+        if row.first == ids.first {
+            top = *begin;
+        }
+        if row.last <= ids.last {
+            bottom = *end;
+        }
+    }
+    (top, bottom)
+}
+
+/// Whether the use of the ids of a band fails.
+fn fails(band: &Band) -> bool {
+    band.look == Look::Lacking || band.look == Look::Forbidden
+}
+
+/// Writes which ids the rows have where a side has bands.
+fn push_labels(text: &mut String, rows: &[Row], bands: &[Band], is_host: bool) -> Done {
+    for (Span { first, last }, top, bottom) in rows {
+        let is_there = |band: &Band| match is_host {
+            true => !fails(band) && has(band.host, *first),
+            false => has(band.guest, *first),
+        };
+        if bands.iter().any(is_there) {
+            let y = top.saturating_add(*bottom) / 2;
+            write!(text, "<text y='{y}'>{first}")?;
+            if first < last {
+                write!(text, "–{last}")?;
+            }
+            text.push_str("</text>\n")?;
+        }
+    }
+    text.push_str("</g>\n")
+}
+
+/// Draws bands, with the left axis below the origin. How far down they are is handed back.
+pub(super) fn push_panel(alloc: Global, text: &mut String, bands: &[Band]) -> Made<u64> {
+    let rows = rows_of(alloc, bands)?;
+    let (rows, height) = (rows.as_slice(), rows.last().map_or(12, |(_, _, y)| *y));
+    for (look, fill, _) in &LOOKS {
+        write!(text, "<path fill='{fill}' {BAND} d='M0 12")?;
+        for band in bands.iter().filter(|band| band.look == *look) {
+            let ((top, bottom), (far, end)) = (ends(rows, band.guest), ends(rows, band.host));
+            let x = if fails(band) { 18 } else { 180 };
+            write!(text, "M0 {top}L{x} {far}V{end}L0 {bottom}z\n")?;
+        }
+        text.push_str("'/>\n")?;
+    }
+    text.push_str("<path stroke='#374151' d='M0 12V")?;
+    write!(text, "{height}M180 12V{height}'/>\n")?;
+    text.push_str("<g text-anchor='end' transform='translate(-8 4)'>\n")?;
+    push_labels(text, rows, bands, false)?;
+    text.push_str("<g transform='translate(188 4)'>\n")?;
+    push_labels(text, rows, bands, true)?;
+    Ok(height)
 }

@@ -1,8 +1,7 @@
-use Rattle.virtiofs_findings.proofs.SetUpLemmas.{adds_unread, adds_unbuilt}
+use Rattle.std.proofs.Common.{sym, ◌∙◌}
+use Rattle.virtiofs_findings.proofs.SetUpLemmas.{adds_fault}
 use Rattle.virtiofs_findings.proofs.setup.refuse_specs.Goals as goal
 
-pub returns-in-Spec : goal.returns-in-Spec
-returns-in-Spec g c = adds_unread _ _ _ _ _ _ _ _ c.in-Spec.is c.refuse_text.ensures.told c.refuse_text.ensures.faulty
-
-pub returns-in-Build : goal.returns-in-Build
-returns-in-Build g c = adds_unbuilt _ _ _ _ _ _ _ c.in-Build.is c.refuse_build.ensures
+pub returns : goal.returns
+returns g c =
+    adds_fault _ _ _ _ _ _ _ _ (sym c.in-Some.is ∙ c.place_of.ensures) c.in_ok-why.ensures c.tell.ensures

@@ -4,9 +4,9 @@ use Rattle.virtiofs_findings.proofs.setup.set_up.Goals as goal
 
 pub returns-clause-sets_up : goal.returns-clause-sets_up
 returns-clause-sets_up g c = record {
-  users = rw (c.as_slice.ensures.value, c.as_slice-2.ensures.value, c.users_of.ensures, c.is_by_another.ensures, c.is_bounded.ensures)
+  users = rw (c.as_slice.ensures.value, c.as_slice-2.ensures.value, c.users_of.ensures, c.is_by_another.ensures, c.acts_as_own.ensures)
       at c.in_ok-users.ensures.read;
-  groups = rw (c.as_slice-3.ensures.value, c.as_slice-4.ensures.value, c.groups_of.ensures, c.is_by_another-2.ensures, c.is_bounded-2.ensures)
+  groups = rw (c.as_slice-3.ensures.value, c.as_slice-4.ensures.value, c.groups_of.ensures, c.is_by_another-2.ensures, c.acts_as_own-2.ensures)
       at c.in_ok-groups.ensures.read;
   names = c.in_ok-names.ensures.read;
   passes = c.passes.ensures;

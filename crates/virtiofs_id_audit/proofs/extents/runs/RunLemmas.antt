@@ -1,15 +1,13 @@
 -- Neighbouring ids that are all of some kind, or of which none is.
-use Rattle.std.proofs.Common.{◌≡◌, inl, inr, ℕ, zero, suc, ◌+◌, ◌-◌, ◌<◌, ◌≤◌, true, false, min, List, length, get_or}
+use Rattle.std.proofs.Common.{◌≡◌, ◌≢◌, ◌↔◌, Bool, inl, inr, ℕ, zero, suc, ◌+◌, ◌-◌, ◌<◌, ◌≤◌, true, false, min, List}
 use Rattle.std.proofs.Common.{Contains, Some, refl, sym, ◌∙◌, subst, arith, rules}
-use Rattle.std.proofs.Math.Bool.{not}
-use Rattle.std.proofs.lemmas.Bool.{false≢true, not-true, not-false}
+use Rattle.std.proofs.Math.Bool.{beq}
+use Rattle.std.proofs.lemmas.Bool.{false≢true, true_from_ne_false, false_from_ne_true}
 use Rattle.std.proofs.lemmas.Option.{same_Some}
-use Rattle.virtiofs_id_audit.specs.ExtentParts.{IsSought, IsRun, AreStarts, BecomesOne}
+use Rattle.virtiofs_id_audit.specs.ExtentParts.{IsSought, of_bad, IsRun, AreStarts, BecomesOne}
 use Rattle.virtiofs_id_audit.specs.IdAudit.{IsAstray, GoesInto}
-use Rattle.virtiofs_id_audit.specs.IdAuditParts.{Hold, AreInOrder, ReturnsBy, IsMoved}
-use Rattle.virtiofs_id_audit.specs.Mending.{IsBad}
+use Rattle.virtiofs_id_audit.specs.IdAuditParts.{Hold, ReturnsBy, IsMoved}
 use Rattle.virtiofs_id_audit.specs.declared.extents.runs.Run.{Run}
-use Rattle.virtiofs_id_audit.specs.declared.extents.runs.Sought.TheVariants.{OnlyAstray}
 use Rattle.virtiofs_id_audit.specs.declared.spans.Span.{Span}
 use Rattle.virtiofs_map.specs.Build.{Accepted}
 use Rattle.virtiofs_map.specs.Mapping.{Becomes}
@@ -21,30 +19,7 @@ use Rattle.virtiofs_map.specs.declared.soft_idmap.piece.Outcome.TheVariants.{Kep
 use Rattle.virtiofs_map.specs.declared.soft_idmap.piece.Piece.{Piece}
 use Rattle.virtiofs_id_audit.proofs.PieceLemmas.{value-each}
 use Rattle.virtiofs_id_audit.proofs.RoundTripLemmas.{IsAstray-moved, IsMoved-astray}
-use Rattle.virtiofs_id_audit.proofs.SpanLemmas.{SplitsAt, held_after, held_at}
 use Rattle.virtiofs_map.proofs.ForCallers.{lookup_one_value}
-
--- ---- ids in spans
-
-module _ (spans : List Span) (id at : ℕ) (order : AreInOrder spans) (splits : SplitsAt spans id at)
-    (within : id ≤ 4294967295) where
-  -- no span is left there
-  pub IsRun-end : length spans ≤ at → IsRun (Hold spans) id 4294967295 (record { last = 4294967295; all = false })
-  IsRun-end out = search (rules, held_after)
-
-  module _ (span : Span) (inside : at < length spans) (here : get_or spans at span ≡ span) where
-    pub IsRun-before : id < span.first → span.first ≤ 4294967295
-        → IsRun (Hold spans) id 4294967295 (record { last = span.first - 1; all = false })
-    IsRun-before before bound = record {
-      from = omega arith;
-      to = omega arith;
-      all = λ never. absurd (cc);
-      none = λ _ n from to held. omega (arith, rw here at (held_after spans id at n span order splits from held).1);
-    }
-
-    pub IsRun-in : span.first ≤ id → span.last ≤ 4294967295
-        → IsRun (Hold spans) id 4294967295 (record { last = span.last; all = true })
-    IsRun-in begins bound = search (rules, held_at)
 
 -- ---- numbers of a piece
 
@@ -55,12 +30,13 @@ pub IsRun-each : (piece : Piece) (spans : List Span) (to : ℕ) (run : Run) → 
 IsRun-each piece spans to run order each start is = record {
   from = omega arith;
   to = omega arith;
-  all = λ bad n from to'.
-      (let far = is.from in
-      (to + (n - piece.first), value-each piece to n each start from, is.all bad _ (omega arith) (omega arith)));
-  none = λ never n from to' (host, becomes, held).
-      (let same : host ≡ to + (n - piece.first) = same_Some _ _ (sym becomes ∙ value-each piece to n each start from) in
-      is.none never host (omega arith) (omega (arith, is.from)) held);
+  each = λ n from to'.
+      (let value = value-each piece to n each start from in
+      let far = is.from in
+      let at = is.each (to + (n - piece.first)) (omega arith) (omega arith) in (
+        λ all. (to + (n - piece.first), value, at.0 all),
+        λ (host, becomes, held). at.1 (rw (same_Some _ _ (sym becomes ∙ value)) at held),
+      ));
 }
 
 -- what the first one becomes, where they become others one after the other
@@ -86,14 +62,16 @@ IsRun-moved piece to is order named =
     record {
       from = order;
       to = omega arith;
-      all = λ _ n from below. record {
-        from = from;
-        to = below;
-        value = to + (n - piece.first);
-        becomes = rw is refl;
-        moved = λ same. named'.0 (omega arith);
-      };
-      none = λ never n from below. absurd (cc);
+      each = λ n from below. (
+        λ _. record {
+          from = from;
+          to = below;
+          value = to + (n - piece.first);
+          becomes = rw is refl;
+          moved = λ same. named'.0 (omega arith);
+        },
+        λ _. refl,
+      );
     }
 
 -- ---- ids of the guest
@@ -106,13 +84,13 @@ IsRun-into specs hosts there n last run accepted stretch first is_id is last_is 
     record {
       from = omega (arith, is.from);
       to = omega arith;
-      all = λ every m from below. into m from below (is.all every m (omega arith) (omega arith));
-      none = λ never m from below goes. is.none never m (omega arith) (omega arith) (
-        goes.host,
-        lookup_one_value specs accepted GuestToHost m _ _ (stretch.becomes m (omega arith) (omega (arith, is.to)))
-            goes.goes.becomes,
-        goes.is_one,
-      );
+      each = λ m from below.
+          (let at = is.each m (omega arith) (omega arith) in
+          let becomes = stretch.becomes m (omega arith) (omega (arith, is.to)) in (
+            λ all. into m from below (at.0 all),
+            λ goes. at.1
+                (goes.host, lookup_one_value specs accepted GuestToHost m _ _ becomes goes.goes.becomes, goes.is_one),
+          ));
     } where
       into : (m : ℕ) → n ≤ m → m ≤ last → BecomesOne there hosts m → GoesInto specs hosts m
       into m from below (host, becomes, is_one) = search rules
@@ -122,17 +100,18 @@ module _ (specs : List IdMap) (trip : Piece) (n last : ℕ) (moved : Run) (accep
     (from : n ≤ last) (within : last ≤ 4294967294) where
   moved_astray : moved.all ≡ true → (m : ℕ) → n ≤ m → m ≤ moved.last → m < 4294967295 → IsAstray specs m
   moved_astray every m from to is_id =
-      IsAstray-moved specs trip m accepted returns is_id (is_moved.all every m (omega arith) to)
+      IsAstray-moved specs trip m accepted returns is_id ((is_moved.each m (omega arith) to).0 every)
 
   -- as far as what is known of the way back goes
   pub IsRun-trip : last ≤ moved.last → IsRun (IsAstray specs) n 4294967294 (record { last = last; all = moved.all })
   IsRun-trip up_to = record {
     from = from;
     to = within;
-    all = λ every m from to. moved_astray every m from (omega arith) (omega arith);
-    none = λ never m from to astray.
-        is_moved.none never m (omega arith) (omega arith)
-        (IsMoved-astray specs trip m accepted returns (omega arith) (omega (arith, is_moved.to)) astray);
+    each = λ m from to. (
+      λ every. moved_astray every m from (omega arith) (omega arith),
+      λ astray. (is_moved.each m (omega arith) (omega arith)).1
+          (IsMoved-astray specs trip m accepted returns (omega arith) (omega (arith, is_moved.to)) astray),
+    );
   }
 
   -- those after one that is astray, up to a start
@@ -181,58 +160,51 @@ module _ (specs : List IdMap) (trip : Piece) (n last : ℕ) (moved : Run) (accep
 
 -- ---- what is known of two kinds
 
+pub beq_is : (a b : Bool) → (beq a b ≡ true) ↔ (a ≡ b)
+beq_is true true = (λ _. refl, λ _. refl)
+beq_is true false = (λ e. absurd (cc), λ e. absurd (cc))
+beq_is false true = (λ e. absurd (cc), λ e. absurd (cc))
+beq_is false false = (λ _. refl, λ _. refl)
+
 module _ (specs : List IdMap) (hosts : ℕ → Type 0) (n : ℕ) (astray : Run)
     (is_astray : IsRun (IsAstray specs) n 4294967294 astray) where
-  -- those that do not come back are bad
-  pub IsRun-all_bad : astray.all ≡ true → IsRun (IsBad specs hosts) n 4294967294 astray
-  IsRun-all_bad every = record {
+  -- those that do not come back are bad, and those that do are not astray
+  pub IsRun-known : (bad : Bool) → astray.all ≡ bad → IsRun (IsSought (of_bad bad) specs hosts) n 4294967294 astray
+  IsRun-known true every = record {
     from = is_astray.from;
     to = is_astray.to;
-    all = λ _ m from to.
-        (let is = is_astray.all every m from to in
-        record { host = is.host; goes = is.goes; why = inl is.not_back });
-    none = λ never. absurd (cc);
+    each = λ m from to. (
+      λ all.
+          (let is = (is_astray.each m from to).0 all in
+          record { host = is.host; goes = is.goes; why = inl is.not_back }),
+      λ _. every,
+    );
   }
-
-  -- those that come back are not sought
-  pub IsRun-none_astray : astray.all ≡ false → IsRun (IsSought OnlyAstray specs hosts) n 4294967294 astray
-  IsRun-none_astray never = record {
+  IsRun-known false never = record {
     from = is_astray.from;
     to = is_astray.to;
-    all = λ every. absurd (cc);
-    none = λ _ m from to (is, _). is_astray.none never m from to is;
+    each = λ m from to. (λ all. absurd (cc), λ (is, _). (is_astray.each m from to).1 is);
   }
 
-  module _ (into : Run) (last : ℕ) (is_into : IsRun (GoesInto specs hosts) n 4294967294 into)
-      (last_is : last ≡ min astray.last into.last) where
-    reaches : n ≤ last
-    reaches = omega (arith, is_astray.from, is_into.from)
-
-    stays : last ≤ 4294967294
-    stays = omega (arith, is_into.to)
-
-    pub IsRun-bad : astray.all ≡ false
-        → IsRun (IsBad specs hosts) n 4294967294 (record { last = last; all = into.all })
-    IsRun-bad never = record {
-      from = reaches;
-      to = stays;
-      all = λ every m from to.
-          (let goes = is_into.all every m from (omega arith) in
-          record { host = goes.host; goes = goes.goes; why = inr goes.is_one });
-      none = λ none m from to bad. elim bad.why [
-        | inl stray ↦ is_astray.none never m from (omega arith)
-            (record { host = bad.host; goes = bad.goes; not_back = stray })
-        | inr is_one ↦ is_into.none none m from (omega arith)
-            (record { host = bad.host; goes = bad.goes; is_one = is_one })
-      ];
-    }
-
-    pub IsRun-only_astray : astray.all ≡ true
-        → IsRun (IsSought OnlyAstray specs hosts) n 4294967294 (record { last = last; all = not into.all })
-    IsRun-only_astray every = record {
-      from = reaches;
-      to = stays;
-      all = λ none m from to.
-          (is_astray.all every m from (omega arith), is_into.none (not-true _ none) m from (omega arith));
-      none = λ some m from to (_, not_into). not_into (is_into.all (not-false _ some) m from (omega arith));
-    }
+  -- of the others it matters what they become
+  pub IsRun-both : (bad : Bool) (into : Run) (last : ℕ) (all : Bool) → IsRun (GoesInto specs hosts) n 4294967294 into
+      → last ≡ min astray.last into.last → astray.all ≢ bad → (all ≡ true) ↔ (into.all ≡ bad)
+      → IsRun (IsSought (of_bad bad) specs hosts) n 4294967294 (record { last = last; all = all })
+  IsRun-both bad into last all is last_is differ same = record {
+    from = omega (arith, is_astray.from, is.from);
+    to = omega (arith, is.to);
+    each = λ m from to. of bad m (is_astray.each m from (omega arith)) (is.each m from (omega arith)) differ same;
+  } where
+    of : (bad : Bool) (m : ℕ) → (astray.all ≡ true) ↔ IsAstray specs m → (into.all ≡ true) ↔ GoesInto specs hosts m
+        → astray.all ≢ bad → (all ≡ true) ↔ (into.all ≡ bad) → (all ≡ true) ↔ IsSought (of_bad bad) specs hosts m
+    of true m stray goes differ same = (
+      λ every. (let is = goes.0 (same.0 every) in record { host = is.host; goes = is.goes; why = inr is.is_one }),
+      λ bad. same.1 (elim bad.why [
+        | inl not_back ↦ absurd (differ (stray.1 (record { host = bad.host; goes = bad.goes; not_back = not_back })))
+        | inr is_one ↦ goes.1 (record { host = bad.host; goes = bad.goes; is_one = is_one })
+      ]),
+    )
+    of false m stray goes differ same = (
+      λ every. (stray.0 (true_from_ne_false astray.all differ), λ is. absurd (cc (same.0 every, goes.1 is))),
+      λ (_, not_into). same.1 (false_from_ne_true into.all (λ is. not_into (goes.0 is))),
+    )

@@ -50,7 +50,7 @@ module _ (such : ℕ → Type 0) (next : ℕ) (others : List Span) (run : Run) (
               | inl old ↦ old
               | inr has ↦ absurd (omega (arith, has.0))
             ])
-            | inr after ↦ is.none none n (omega arith) (omega arith)
+            | inr after ↦ (λ it. absurd (cc (none, (is.each n (omega arith) (omega arith)).1 it)))
           ];
         };
       }

@@ -1,6 +1,6 @@
 -- An image has 512 bytes, and 64 for each byte of the text of its rules, at most.
 use Rattle.std.proofs.Common.{◌≡◌, ◌≢◌, ℕ, ◌+◌, ◌-◌, ◌*◌, ◌≤◌, Bool, true, false, ◌&&◌, cond, eqb, List, [], ◌∷◌, ◌++◌}
-use Rattle.std.proofs.Common.{length, map, refl, ap, ◌∙◌, arith, length-append, rules}
+use Rattle.std.proofs.Common.{length, map, sum_by, refl, sym, ap, ◌∙◌, arith, length-append, rules}
 use Rattle.std.specs.Char.{is_whitespace}
 use Rattle.std.specs.List.{filter}
 use Rattle.std.specs.Str.{IsUtf8, chars, drop_trailing_whitespace, encode_utf8_all, skip_leading_whitespace}
@@ -10,10 +10,11 @@ use Rattle.virtiofs_map.specs.NodeParts.{patterns_on}
 use Rattle.virtiofs_map.specs.FirstRule.{acts, pattern}
 use Rattle.virtiofs_map.specs.NamesImage.{image_length, pattern_bytes}
 use Rattle.virtiofs_map.specs.Rule.{MappingRule, RuleType}
-use Rattle.virtiofs_map.specs.RuleText.{Client, Fields, Map, RuleAsWritten, RuleHead, RuleThen, RulesThen, SaysRules}
-use Rattle.virtiofs_map.specs.RuleText.{ScopeName, Server, Typed, expanded, rule_fields, rules_of, trimmed}
+use Rattle.virtiofs_map.specs.RuleText.{Fields, Map, RuleAsWritten, RuleHead, RuleThen, RulesThen, SaysRules}
+use Rattle.virtiofs_map.specs.RuleText.{ScopeName, Typed, expanded, rule_fields, rules_of, trimmed}
 use Rattle.virtiofs_map.specs.declared.xattrmap.scopes.Side.{Side}
-use Rattle.virtiofs_map.proofs.xattrmap.NodeCountLemmas.{held, text_nodes_most, sum_append, sum_of}
+use Rattle.virtiofs_map.proofs.xattrmap.NodeCountLemmas.{held, nodes_most, worth}
+use Rattle.std.proofs.lemmas.List.Sums.{sum_by-append, sum_by-cons}
 use Rattle.virtiofs_map.proofs.ReadSoFarLemmas.{expanded_snoc}
 use Rattle.virtiofs_map.specs.declared.xattrmap.scopes.Side.TheVariants as sides
 
@@ -24,15 +25,15 @@ abbrev rule_worth : Side → MappingRule → ℕ
 rule_worth side rule = cond (acts side rule) (6 + length (pattern side rule)) 0
 
 abbrev side_worth : Side → List MappingRule → ℕ
-side_worth side rules = sum_of (rule_worth side) rules
+side_worth side rules = sum_by (rule_worth side) rules
 
 held_is : (side : Side) (rules : List MappingRule) → held (patterns_on side rules) [] ≡ side_worth side rules
 held_is side [] = refl
-held_is side (rule ∷ rules) = by (acts side rule) (held_is side rules) where
+held_is side (rule ∷ rules) = by (acts side rule) (held_is side rules) ∙ sym (sum_by-cons (rule_worth side) rule rules) where
   by : (acting : Bool) → held (patterns_on side rules) [] ≡ side_worth side rules
       → held (map (pattern side) (cond acting (rule ∷ filter (acts side) rules) (filter (acts side) rules))) []
       ≡ cond acting (6 + length (pattern side rule)) 0 + side_worth side rules
-  by true rest = omega (arith, rest)
+  by true rest = omega (arith, rest, sum_by-cons (worth []) (pattern side rule) (patterns_on side rules))
   by false rest = omega (arith, rest)
 
 -- what rules add to an image, with 6 text nodes more for each side than it can have
@@ -46,14 +47,14 @@ patterns_append [] more = omega arith
 patterns_append (rule ∷ rules) more = omega (arith, patterns_append rules more)
 
 cost_append : (rules more : List MappingRule) → cost (rules ++ more) ≡ cost rules + cost more
-cost_append rules more = grind (arith, sum_append, patterns_append, length-append)
+cost_append rules more = grind (arith, sum_by-append, patterns_append, length-append)
 
 image_most : (rules : List MappingRule)
     → image_length rules
     ≤ 104 + 24 * ((side_worth sides.Client rules - 6) + (side_worth sides.Server rules - 6) + length rules)
     + pattern_bytes rules
 unfolding image_length
-image_most rules = grind (arith, text_nodes_most, held_is)
+image_most rules = grind (arith, nodes_most, held_is)
 
 -- ---- how many bytes characters have
 
@@ -86,15 +87,21 @@ bytes_dropped (c ∷ text) =
 -- ---- what rules have in a text
 
 fields_bytes : (d : ℕ) (text : List ℕ) (fields : List (List ℕ)) (rest : List ℕ) → Fields d text fields rest
-    → sum_of (λ field. bytes_of field + 1) fields + bytes_of rest ≤ bytes_of text
+    → sum_by (λ field. bytes_of field + 1) fields + bytes_of rest ≤ bytes_of text
 fields_bytes d text [] rest is = omega (arith, ap bytes_of is)
 fields_bytes d text (field ∷ fields) rest (after, is, lacks, more) =
     let one = bytes_some d after in
-    omega (arith, fields_bytes d after fields rest more, ap bytes_of is ∙ bytes_append field (d ∷ after), one)
+    omega (
+      arith,
+      fields_bytes d after fields rest more,
+      ap bytes_of is ∙ bytes_append field (d ∷ after),
+      one,
+      sum_by-cons (λ field. bytes_of field + 1) field fields,
+    )
 
 -- the fields of a rule, the delimiter before them, and one after each
 rule_bytes : (text : List ℕ) (rule : RuleAsWritten) (after : List ℕ) → RuleThen text rule after
-    → 1 + sum_of (λ field. bytes_of field + 1) (rule_fields rule) + bytes_of after ≤ bytes_of text
+    → 1 + sum_by (λ field. bytes_of field + 1) (rule_fields rule) + bytes_of after ≤ bytes_of text
 rule_bytes text rule after is = search (rules, bytes_some, fields_bytes)
 
 typed_cost : (kind : RuleType) (scope : ScopeName) (key prepend : List ℕ)
@@ -132,14 +139,14 @@ last_bytes rules rest (Typed kind scope) key prepend most front is =
     omega (arith, typed_bytes rest (Typed kind scope) key prepend [] is (λ e. cc), all, both)
 last_bytes rules rest Map [] prepend most front is =
     let all = image_most (rules ++ rules_of Map [] prepend) in
-    let client = sum_append (rule_worth sides.Client) rules (rules_of Map [] prepend) in
-    let server = sum_append (rule_worth sides.Server) rules (rules_of Map [] prepend) in
+    let client = sum_by-append (rule_worth sides.Client) rules (rules_of Map [] prepend) in
+    let server = sum_by-append (rule_worth sides.Server) rules (rules_of Map [] prepend) in
     let both = cost_append rules (rules_of Map [] prepend) in
     omega (arith, rule_bytes rest record { head = Map; key = []; prepend = prepend } [] is, all, client, server, both)
 last_bytes rules rest Map (c ∷ cs) prepend most front is =
     let fields = rule_bytes rest record { head = Map; key = c ∷ cs; prepend = prepend } [] is in
-    let client = sum_append (rule_worth sides.Client) rules (rules_of Map (c ∷ cs) prepend) in
-    let server = sum_append (rule_worth sides.Server) rules (rules_of Map (c ∷ cs) prepend) in
+    let client = sum_by-append (rule_worth sides.Client) rules (rules_of Map (c ∷ cs) prepend) in
+    let server = sum_by-append (rule_worth sides.Server) rules (rules_of Map (c ∷ cs) prepend) in
     let both = cost_append rules (rules_of Map (c ∷ cs) prepend) in
     omega (arith, fields, image_most (rules ++ rules_of Map (c ∷ cs) prepend), client, server, both)
 

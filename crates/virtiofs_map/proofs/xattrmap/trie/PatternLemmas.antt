@@ -1,16 +1,18 @@
 -- The patterns of a side, gathered rule by rule, and in any order.
 use Rattle.std.proofs.Common.{◌≡◌, ◌≢◌, ℕ, zero, suc, ◌+◌, ◌*◌, ◌<◌, ◌≤◌, true, false, List, [], ◌∷◌, ◌++◌, length}
-use Rattle.std.proofs.Common.{take, get_or, Some, inl, inr, sym, ap, subst, ◌∙◌, eq-eqb, arith, All, Contains}
+use Rattle.std.proofs.Common.{append-nil, cond, filter, map, take, get_or, Some, inl, inr, sym, ap, subst, ◌∙◌, eq-eqb, arith, All, Contains}
 use Rattle.std.proofs.Common.{slice_get, IsPermutation, nat_cmp, is_lt, true≢false, lt-ltb, rules}
 use Rattle.std.specs.Cmp.Lexicographic.{slice_cmp}
 use Rattle.std.specs.Ordering.{ordering_then}
 use Rattle.std.specs.declared.cmp.Ordering.{Ordering}
 use Rattle.std.proofs.lemmas.Bool.{cases_lt}
 use Rattle.std.proofs.lemmas.Bool.Decides.{nat_tests}
-use Rattle.std.proofs.lemmas.List.Sorted.{All-permutation, Contains-permutation}
-use Rattle.std.proofs.lemmas.List.Elements.{All-contains, All-push, Contains-append_left, Contains-push}
-use Rattle.std.proofs.lemmas.Option.{same_Some, slice_get_past, slice_get_within, get_or_from_slice_get}
-use Rattle.virtiofs_map.specs.NodeParts.{IsPatternAt, ArePatterns, ArePatternsBelow, AreInOrder}
+use Rattle.std.proofs.lemmas.List.Sorted.{All-permutation, Contains-permutation, IsPermutation-map, IsPermutation-refl}
+use Rattle.std.proofs.lemmas.List.Sorted.{IsPermutation-trans}
+use Rattle.std.proofs.lemmas.List.Elements.{All-contains, All-push, Contains-append_left, Contains-push, filter-append}
+use Rattle.std.proofs.lemmas.List.{map-append, take_all, take_more}
+use Rattle.std.proofs.lemmas.Option.{same_Some, slice_get_cases, slice_get_past, slice_get_within, get_or_from_slice_get}
+use Rattle.virtiofs_map.specs.NodeParts.{IsPatternAt, ArePatterns, ArePatternsBelow, AreInOrder, patterns_on}
 use Rattle.virtiofs_map.specs.FirstRule.{acts, pattern}
 use Rattle.virtiofs_map.specs.TrieBuildParts.{AreReady}
 use Rattle.virtiofs_map.specs.Rule.{HasNoZero, MappingRule, type_number}
@@ -18,12 +20,30 @@ use Rattle.virtiofs_map.specs.declared.xattrmap.trie.patterns.Pattern.{Pattern}
 use Rattle.virtiofs_map.specs.declared.xattrmap.scopes.Side.{Side}
 use Rattle.virtiofs_map.proofs.xattrmap.PathLemmas.{pattern_no_zero}
 
+-- what names are compared with, with one rule more
+texts_more : (side : Side) (rules : List MappingRule) (place : ℕ) (rule : MappingRule)
+    → slice_get rules place ≡ Some rule
+    → patterns_on side (take (place + 1) rules)
+    ≡ patterns_on side (take place rules) ++ map (pattern side) (cond (acts side rule) (rule ∷ []) [])
+texts_more side rules place rule here =
+    let inside = slice_get_within rules place rule here in
+    ap (patterns_on side)
+    (take_more rules place rule inside
+    ∙ ap (λ one. take place rules ++ one ∷ []) (get_or_from_slice_get rules place rule rule here))
+    ∙ ap (map (pattern side)) (filter-append (acts side) (take place rules) (rule ∷ []))
+    ∙ map-append (pattern side) (filter (acts side) (take place rules)) (filter (acts side) (rule ∷ []))
+
 -- the rule at the place has a pattern
 pub patterns_more : (side : Side) (rules : List MappingRule) (bytes : List ℕ) (place : ℕ) (patterns : List Pattern)
     (one : Pattern)
     → ArePatternsBelow side rules bytes place patterns → IsPatternAt side rules bytes place one
     → ArePatternsBelow side rules bytes (place + 1) (patterns ++ one ∷ [])
 patterns_more side rules bytes place patterns one below is = record {
+  texts = texts_more side rules place is.rule is.here
+      ∙ ap (λ b. patterns_on side (take place rules) ++ map (pattern side) (cond b (is.rule ∷ []) [])) is.acting
+      ∙ ap (λ texts. texts ++ pattern side is.rule ∷ []) below.texts
+      ∙ ap (λ text. map (λ one. one.bytes.now) patterns ++ text ∷ []) (sym is.are)
+      ∙ sym (map-append (λ (p : Pattern). p.bytes.now) patterns (one ∷ []));
   each = search All-push;
   every = λ at rule before here acting. elim (cases_lt at place) [
     | inl earlier ↦
@@ -46,16 +66,34 @@ pub patterns_same : (side : Side) (rules : List MappingRule) (bytes : List ℕ) 
     → ArePatternsBelow side rules bytes place patterns
     → ((rule : MappingRule) → slice_get rules place ≡ Some rule → acts side rule ≡ false)
     → ArePatternsBelow side rules bytes (place + 1) patterns
-patterns_same side rules bytes place patterns below none = grind (arith, cases_lt, true≢false, slice_get)
+patterns_same side rules bytes place patterns below none = record {
+  texts = elim (slice_get_cases rules place).1 [
+    | inr (past, _) ↦
+        ap (patterns_on side) (take_all (place + 1) rules (omega arith) ∙ sym (take_all place rules past)) ∙ below.texts
+    | inl (rule, _, here, _) ↦
+        texts_more side rules place rule here
+        ∙ ap (λ b. patterns_on side (take place rules) ++ map (pattern side) (cond b (rule ∷ []) [])) (none rule here)
+        ∙ append-nil (patterns_on side (take place rules)) ∙ below.texts
+  ];
+  each = below.each;
+  every = grind (arith, cases_lt, true≢false, slice_get);
+}
 
 pub patterns_whole : (side : Side) (rules : List MappingRule) (bytes : List ℕ) (end : ℕ) (patterns : List Pattern)
     → ArePatternsBelow side rules bytes end patterns → length rules ≤ end → ArePatterns side rules bytes patterns
-patterns_whole side rules bytes end patterns below past = grind (arith, cases_lt, slice_get_past)
+patterns_whole side rules bytes end patterns below past = record {
+  texts = subst (IsPermutation (patterns_on side rules))
+      (ap (patterns_on side) (sym (take_all end rules past)) ∙ below.texts) (IsPermutation-refl (patterns_on side rules));
+  each = below.each;
+  every = grind (arith, cases_lt, slice_get_past);
+}
 
 -- in any order they are the patterns
 pub patterns-permutation : (side : Side) (rules : List MappingRule) (bytes : List ℕ) (patterns others : List Pattern)
     → IsPermutation patterns others → ArePatterns side rules bytes patterns → ArePatterns side rules bytes others
 patterns-permutation side rules bytes patterns others moved are = record {
+  texts = IsPermutation-trans (patterns_on side rules) _ _ are.texts
+      (IsPermutation-map (λ (p : Pattern). p.bytes.now) patterns others moved);
   each = search All-permutation;
   every = λ at rule here acting.
       let (one, stored, same, answer) = are.every at rule here acting in
@@ -94,6 +132,6 @@ AreReady-made side rules bytes patterns are plain order = record {
       let stored : Contains rules is.rule = (search (slice_get_within, get_or_from_slice_get)) in
       let none : All (λ byte. byte ≢ 0) (pattern side is.rule) =
       pattern_no_zero side is.rule (All-contains HasNoZero rules is.rule plain stored) in
-      record { within = is.within; full = subst (λ (s : List ℕ). All (λ byte. byte ≢ 0) s) (sym is.are) none };
+      record { within = is.within; full = subst (λ (s : List ℕ). All (λ byte. byte ≢ 0) s) (sym is.are) none; small = is.small };
   order = order;
 }

@@ -1,13 +1,12 @@
 mod AnswerLemmas
 mod ChildrenLemmas
-mod ExactLemmas
 mod BuiltTrieLemmas
 mod TrieBuildLemmas
 mod PatternTextLemmas
 mod FirstBytesLemmas
 mod KidLemmas
-mod KidTextNodeLemmas
-mod LevelLemmas
-mod RangeTextNodeLemmas
+mod PlacesLemmas
+mod BuiltSoFarLemmas
+mod RangePathLemmas
 mod PatternOrderLemmas
 mod AppendedRangeLemmas

@@ -122,6 +122,7 @@ fn acts_number(rule: RuleRef<'_>) -> u64
 }
 
 /// Appends the row of a rule.
+#[tactic(auto, using(crate::proofs::RuleRowLemmas::three_written))]
 fn push_rule<A: Allocator>(
     image: &mut Vec<u8, A>,
     rule: RuleRef<'_>,

@@ -1,11 +1,13 @@
 //! The making of a trie's nodes, level by level.
 
-ghost use Rattle.std.specs.Prelude.{◌≡◌, ◌≢◌, ◌<◌, ◌≤◌, ◌+◌, ◌-◌, ◌++◌, ℕ, List, map, take, length, slice_get, slice_index, All, Some, IfOk, OnOk};
+ghost use Rattle.std.specs.Prelude.{◌≡◌, ◌≢◌, ◌<◌, ◌≤◌, ◌+◌, ◌-◌, ℕ, List, take, length, slice_get, slice_index, All, Some, IfOk, OnOk};
+ghost use Rattle.virtiofs_map.specs.NodeParts.{AreFew, ArePatterns, AreTrieRows};
 ghost use Rattle.virtiofs_map.specs.TrieBuildParts.{text, number, start_of, AreReady, IsLeast, IsLeastOf, IsUpto, IsPatternRange};
-ghost use Rattle.virtiofs_map.specs.TrieBuildParts.{AreRangesOrHoles, IsRangeOrHole, AreAdded, AreHoles, IsExpanded, AreMade, AreDeep};
-ghost use Rattle.virtiofs_map.specs.TrieBuildParts.{childless_of, text_node_of, path_of_range};
+ghost use Rattle.virtiofs_map.specs.TrieBuildParts.{AreRangesOrHoles, IsRangeOrHole, AreAdded, Adds, AreHoles, IsExpanded};
+ghost use Rattle.virtiofs_map.specs.TrieBuildParts.{below, childless_of, next_of, path_of_range, texts_of};
 ghost use Rattle.virtiofs_map.specs.PatternTrie.{are_sparse, next_bytes};
-ghost use Rattle.virtiofs_map.specs.TrieParts.{AreRowsOfTrie, node_with, children_of, texts_of};
+ghost use Rattle.virtiofs_map.specs.Rule.{MappingRule};
+ghost use Rattle.virtiofs_map.specs.declared.xattrmap.scopes.Side.{Side};
 ghost use Rattle.virtiofs_map.specs.declared.xattrmap.trie.build.PatternRange.{PatternRange};
 
 use crate::xattrmap::trie::node::{NO_ANSWER, Node};
@@ -32,6 +34,7 @@ pub(crate) struct PatternRange {
 }
 
 /// The bytes of a pattern.
+#[tactic(auto, using(crate::proofs::xattrmap::trie::build::PatternTextLemmas::text_read))]
 fn bytes_of<'b>(patterns: &[Pattern<'b>], at: usize) -> &'b [u8]
     requires { at < length patterns.now }
     ensures { result.now ≡ text patterns.now at }
@@ -40,6 +43,7 @@ fn bytes_of<'b>(patterns: &[Pattern<'b>], at: usize) -> &'b [u8]
 }
 
 /// Where a pattern begins among the bytes of all patterns.
+#[tactic(auto, using(crate::proofs::xattrmap::trie::build::PatternTextLemmas::start_of_read))]
 fn start_at(patterns: &[Pattern<'_>], at: usize) -> usize
     requires { at < length patterns.now }
     ensures { result ≡ start_of patterns.now at }
@@ -48,6 +52,7 @@ fn start_at(patterns: &[Pattern<'_>], at: usize) -> usize
 }
 
 /// The answer of a pattern.
+#[tactic(auto, using(crate::proofs::xattrmap::trie::build::PatternTextLemmas::number_read))]
 fn answer_at(patterns: &[Pattern<'_>], at: usize) -> u64
     requires { at < length patterns.now }
     ensures { result ≡ number patterns.now at }
@@ -216,6 +221,7 @@ fn are_children_sparse(patterns: &[Pattern<'_>], range: PatternRange, from: usiz
 }
 
 /// Appends holes until there are `count` places from `base` on.
+#[tactic(auto, using(crate::proofs::xattrmap::trie::build::AppendedRangeLemmas::holes_more))]
 fn add_holes<A: Allocator>(
     ranges: &mut Vec<PatternRange, A>,
     base: usize,
@@ -242,6 +248,7 @@ fn add_holes<A: Allocator>(
 
 /// Appends the children of a range: one for each byte with which its patterns from a place on go
 /// on.
+#[tactic(auto, using(crate::proofs::xattrmap::trie::build::ChildrenLemmas::row))]
 fn add_children<A: Allocator>(
     patterns: &[Pattern<'_>],
     ranges: &mut Vec<PatternRange, A>,
@@ -260,11 +267,12 @@ fn add_children<A: Allocator>(
     requires least { IsLeast patterns.now (IsUpto patterns.now range) answer }
     requires sparse { is_sparse
         ≡ are_sparse (next_bytes (texts_of patterns.now) (path_of_range patterns.now range)) }
-    ensures added { OnOk result
-        (AreAdded patterns.now ranges.old.items ranges.new.items range) }
-    ensures text_nodes { OnOk result (map (text_node_of patterns.now) ranges.new.items
-        ≡ map (text_node_of patterns.now) ranges.old.items
-        ++ children_of patterns.now (text_node_of patterns.now range)) }
+    ensures added { OnOk result (AreAdded patterns.now ranges.old.items ranges.new.items range
+        (next_of patterns.now range from) is_sparse range.high) }
+    ensures few { OnOk result (next_of patterns.now range from + length ranges.new.items
+        ≤ 256 + length ranges.old.items) }
+    ensures counted { OnOk result
+        (Adds patterns.now ranges.old.items ranges.new.items (below patterns.now range)) }
 {
     let base = ranges.len();
     let lowest = byte_of(patterns, from, range.depth);
@@ -298,6 +306,7 @@ fn childless(range: PatternRange, base: usize, answer: u64, label: usize) -> Nod
 }
 
 /// The node of a range, whose children are appended to the ranges.
+#[tactic(auto, using(crate::proofs::xattrmap::trie::build::TrieBuildLemmas::range_of))]
 fn node_of<A: Allocator>(
     patterns: &[Pattern<'_>],
     ranges: &mut Vec<PatternRange, A>,
@@ -308,11 +317,8 @@ fn node_of<A: Allocator>(
     requires place { IsRangeOrHole patterns.now range }
     ensures expanded { IfOk result
         (IsExpanded patterns.now ranges.old.items ranges.new.items range) }
-    ensures text_nodes { OnOk result (map (text_node_of patterns.now) ranges.new.items
-        ≡ map (text_node_of patterns.now) ranges.old.items
-        ++ children_of patterns.now (text_node_of patterns.now range)) }
-    ensures exact { IfOk result (λ node. node ≡ node_with patterns.now node.answer
-        (length ranges.old.items) (text_node_of patterns.now range)) }
+    ensures counted { OnOk result
+        (Adds patterns.now ranges.old.items ranges.new.items (below patterns.now range)) }
 {
     let base = ranges.len();
     if range.low == range.high {
@@ -336,38 +342,10 @@ fn node_of<A: Allocator>(
     })
 }
 
-/// Appends the rows of the ranges from a place on, and the ranges of their children. The place after
-/// the last range that has a row is the result.
-fn build_level<A: Allocator>(
-    patterns: &[Pattern<'_>],
-    ranges: &mut Vec<PatternRange, A>,
-    from: usize,
-    rows: &mut Vec<u8, A>,
-    first: usize,
-) -> Result<usize, AllocError>
-    requires ready { AreReady usize.MAX patterns.now }
-    requires places { AreRangesOrHoles patterns.now ranges.old.items }
-    requires within { from ≤ length ranges.old.items }
-    ensures places { OnOk result (AreRangesOrHoles patterns.now ranges.new.items) }
-    ensures made { IfOk result (λ end.
-        AreMade patterns.now ranges.old.items rows.old.items first from
-        → AreMade patterns.now ranges.new.items rows.new.items first end) }
-    ensures deeper { IfOk result (λ end. (depth : ℕ) → AreDeep ranges.old.items from depth
-        → AreDeep ranges.new.items end (depth + 1)) }
-    ensures more { IfOk result (λ end. end ≤ length ranges.new.items) }
-{
-    let end = ranges.len();
-    for at in from..end {
-        let range = ranges[at];
-        let node = node_of(patterns, ranges, range)?;
-        push_row(rows, placed(node, first))?;
-    }
-    Ok(end)
-}
-
 /// Makes `rows` those of a trie of these patterns, which stand among `bytes`. The trie begins at a
 /// place that is counted in eights, and labels are counted from the first of the bytes. What `rows`
 /// and `ranges` had makes no difference.
+#[tactic(auto, using(crate::proofs::xattrmap::trie::build::TrieBuildLemmas::place_here))]
 pub(crate) fn build_trie<A: Allocator>(
     rows: &mut Vec<u8, A>,
     patterns: &[Pattern<'_>],
@@ -376,7 +354,9 @@ pub(crate) fn build_trie<A: Allocator>(
     first: usize,
 ) -> Result<(), AllocError>
     requires { AreReady (length bytes.now) patterns.now }
-    ensures { OnOk result (AreRowsOfTrie bytes.now patterns.now rows.new.items first) }
+    ensures { OnOk result ((side : Side) (rules : List MappingRule)
+        → ArePatterns side rules bytes.now patterns.now → AreFew rules
+        → AreTrieRows side rules bytes.now rows.new.items first) }
 {
     rows.clear();
     ranges.clear();
@@ -388,9 +368,12 @@ pub(crate) fn build_trie<A: Allocator>(
         length: 0,
         first_byte: 0,
     })?;
-    let mut from = 0;
-    while from < ranges.len() {
-        from = build_level(patterns, ranges, from, rows, first)?;
+    let mut at = 0;
+    while at < ranges.len() {
+        let range = ranges[at];
+        let node = node_of(patterns, ranges, range)?;
+        push_row(rows, placed(node, first))?;
+        at += 1;
     }
     Ok(())
 }

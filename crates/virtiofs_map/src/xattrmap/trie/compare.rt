@@ -108,6 +108,7 @@ fn are_same_by_one(one: &[u8], other: &[u8]) -> bool
 }
 
 /// How many bytes two rows share at their beginning.
+#[tactic(auto, using(crate::proofs::xattrmap::trie::SharedLemmas::shared_ended))]
 pub(crate) fn common_prefix_length(one: &[u8], other: &[u8]) -> usize
     ensures { result ≡ shared one.now other.now }
 {

@@ -49,6 +49,7 @@ impl<'a> Trie<'a> {
     /// The row of the root, which counts as one step. Where there is none, the row of a node that
     /// answers that no rule fits.
     #[inline(always)]
+    #[tactic(auto, using(crate::proofs::xattrmap::trie::reading::ChildStepLemmas::root_there))]
     pub(crate) fn root(self, steps: &mut Steps) -> &'a [u8; 24]
         ensures root { (first labels : ℕ) (nodes : List Node) → self.entry.root ≡ 8 * first
             → HasRows self.entry.rows.image.now first labels nodes → 0 < length nodes

@@ -47,6 +47,7 @@ pub(crate) fn row_at(image: &[u8], from: usize) -> Option<&[u8; 24]>
 
 /// How many bytes the label has.
 #[inline(always)]
+#[tactic(auto, using(crate::proofs::xattrmap::trie::rows::RowLemmas::byte_of_length))]
 pub(crate) fn length_of(row: &[u8; 24]) -> usize
     ensures value { (node : Node) → IsRowOf node row.now → result ≡ node.length }
     ensures few { result < 256 }
@@ -56,6 +57,7 @@ pub(crate) fn length_of(row: &[u8; 24]) -> usize
 
 /// The byte that leads to the node.
 #[inline(always)]
+#[tactic(auto, using(crate::proofs::xattrmap::trie::rows::RowLemmas::byte_of_first))]
 pub(crate) fn first_byte_of(row: &[u8; 24]) -> u8
     ensures { (node : Node) → IsRowOf node row.now → result ≡ node.first_byte }
 {
@@ -64,6 +66,7 @@ pub(crate) fn first_byte_of(row: &[u8; 24]) -> u8
 
 /// Where the label begins.
 #[inline(always)]
+#[tactic(auto, using(crate::proofs::xattrmap::trie::rows::RowLemmas::first_u64_of))]
 pub(crate) fn label_of(row: &[u8; 24]) -> usize
     ensures value { (node : Node) → IsRowOf node row.now → result ≡ node.label }
     ensures few { result < 281474976710656 }
@@ -73,6 +76,7 @@ pub(crate) fn label_of(row: &[u8; 24]) -> usize
 
 /// The lowest byte that leads to a child, where the children are not sparse.
 #[inline(always)]
+#[tactic(auto, using(crate::proofs::xattrmap::trie::rows::RowLemmas::byte_of_low))]
 pub(crate) fn low_byte_of(row: &[u8; 24]) -> u8
     ensures { (node : Node) → IsRowOf node row.now → result ≡ node.low_byte }
 {
@@ -81,6 +85,7 @@ pub(crate) fn low_byte_of(row: &[u8; 24]) -> u8
 
 /// How many places the children have.
 #[inline(always)]
+#[tactic(auto, using(crate::proofs::xattrmap::trie::rows::RowLemmas::byte_of_width))]
 pub(crate) fn width_of(row: &[u8; 24]) -> u8
     ensures { (node : Node) → IsRowOf node row.now → result ≡ node.width }
 {
@@ -101,6 +106,7 @@ pub(crate) fn base_of(row: &[u8; 24]) -> u64
 
 /// Whether the children are sparse.
 #[inline(always)]
+#[tactic(auto, using(crate::proofs::xattrmap::trie::rows::RowLemmas::byte_of_flag))]
 pub(crate) fn is_sparse(row: &[u8; 24]) -> bool
     ensures { (node : Node) → IsRowOf node row.now → result ≡ node.is_sparse }
 {
@@ -109,6 +115,7 @@ pub(crate) fn is_sparse(row: &[u8; 24]) -> bool
 
 /// The answer.
 #[inline(always)]
+#[tactic(auto, using(crate::proofs::xattrmap::trie::rows::RowLemmas::third_u64_of))]
 pub(crate) fn answer_of(row: &[u8; 24]) -> u64
     ensures { (node : Node) → IsRowOf node row.now → result ≡ node.answer }
 {

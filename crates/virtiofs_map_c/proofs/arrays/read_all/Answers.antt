@@ -1,9 +1,13 @@
-use Rattle.std.proofs.Common.{rules}
-use Rattle.virtiofs_map_c.proofs.ArraysLemmas.{AreSaid-more, unknown-here}
+use Rattle.std.proofs.Common.{sym, rules}
+use Rattle.virtiofs_map_c.specs.Arrays.{IsSaid, IsUnknown}
+use Rattle.virtiofs_map_c.proofs.ArraysLemmas.{unknown_here}
+use Rattle.virtiofs_map_c.proofs.ListsLemmas.{says_more}
 use Rattle.virtiofs_map_c.proofs.arrays.read_all.Goals as goal
 
-pub loop-index-preserved : goal.loop-index-preserved
-loop-index-preserved c = search (rules, AreSaid-more)
+pub loop-place-preserved : goal.loop-place-preserved
+loop-place-preserved c =
+    rw c.in_ok-push-in-Some.ensures.items
+    (says_more IsSaid IsUnknown _ _ _ _ _ c.loop-place-test.true c.loop-place.invariant (sym c.in-Some.ensures))
 
 pub returns-in-None-clause-refused : goal.returns-in-None-clause-refused
-returns-in-None-clause-refused c = search (rules, unknown-here)
+returns-in-None-clause-refused c = search (rules, unknown_here)

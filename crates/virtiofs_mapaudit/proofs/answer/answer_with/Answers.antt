@@ -7,7 +7,7 @@ returns c = record {
   audits = c.requires;
   advice = c.in_ok-advised.ensures.advice;
   none_advised = c.in_ok-advised.ensures.untried;
-  ends = c.outcome_of-outcome.ensures;
+  ends = rw (c.as_slice.ensures.value, c.counting-found.ensures) at c.outcome_of-outcome.ensures;
   quiet = c.in_ok-text.ensures;
-  told = rw c.as_slice.ensures.value at c.in_ok-refusals.ensures;
+  told = rw c.as_slice-2.ensures.value at c.in_ok-refusals.ensures;
 }

@@ -1,8 +1,8 @@
 use Rattle.virtiofs_options.proofs.ResultLemmas.{audit-right, audit-wrong}
-use Rattle.std.proofs.Common.{arith, ◌∙◌, ℕ, List, ap, drop, subst}
+use Rattle.std.proofs.Common.{arith, ◌∙◌, List, ap, subst}
 use Rattle.virtiofs_options.specs.Clusters.{split_words}
 use Rattle.virtiofs_options.specs.Words.{IsFront}
-use Rattle.virtiofs_options.specs.declared.word.Word.{Word}
+use Rattle.virtiofs_options.specs.declared.command.Word.{Word}
 use Rattle.virtiofs_options.specs.declared.words.Front.TheVariants.{Audit}
 use Rattle.virtiofs_options.proofs.words.read_words.Goals as goal
 
@@ -11,11 +11,10 @@ returns-in-Ok-Audit-clause-read c = grind (arith, audit-right)
 
 pub returns-in-Ok-Audit-clause-refused : goal.returns-in-Ok-Audit-clause-refused
 returns-in-Ok-Audit-clause-refused c =
-    audit-wrong c.args.own c.args.of_daemon c.args.words.now c.in_ok-front.front.items c.tail_of-rest.result.now
+    audit-wrong c.args.own c.args.of_daemon c.args.words.now c.in_ok-front.front.items c.rest_of.result.now
     c.in-Ok-Audit.asked c.in-Ok-Audit.values c.in-Ok-Audit.first c.audit_of.result
     (c.in_ok-front.ensures ∙ ap (split_words c.args.of_daemon) c.line_of.ensures)
     (subst (λ (l : List Word). IsFront c.args.own l (Audit c.in-Ok-Audit.asked c.in-Ok-Audit.values c.in-Ok-Audit.first))
     c.as_slice.ensures.value
     (subst (IsFront c.args.own c.as_slice.result.now) c.in-Ok-Audit.field-0-is c.in-Ok-Audit.ensures.read))
-    (c.tail_of-rest.ensures ∙ ap (λ (start : ℕ). drop start c.args.words.now) c.rest_start.ensures.start)
-    c.audit_of.ensures.refused
+    c.rest_of.ensures c.audit_of.ensures.refused

@@ -1,16 +1,46 @@
-use Rattle.std.proofs.Common.{◌≡◌, ◌∷◌, ◌++◌, ap, ◌∙◌}
-use Rattle.virtiofs_map.specs.AuditParts.{bad, none_tried, guest_names, one_byte_names, try_one}
-use Rattle.virtiofs_map.proofs.audit.AuditLeastLemmas.{finds_first, finds_from_none}
+use Rattle.std.proofs.Common.{List, sym, ◌∙◌, ap, subst}
+use Rattle.std.specs.List.Sorted.{IsPermutation}
+use Rattle.virtiofs_map.specs.AuditParts.{IsAskedOf, IsBad, Tries, most_guest_names, none_tried, other_rules, parts}
+use Rattle.virtiofs_map.specs.AuditParts.{side_of}
+use Rattle.virtiofs_map.specs.Rule.{MappingRule}
+use Rattle.virtiofs_map.specs.Steps.{count_after}
+use Rattle.virtiofs_map.specs.declared.audit.gathered.Part.TheVariants.{Host}
+use Rattle.virtiofs_map.proofs.AuditAlikeLemmas.{GuestTried}
+use Rattle.virtiofs_map.proofs.audit.AuditGatheredLemmas.{guest_tries, counts_between}
+use Rattle.virtiofs_map.proofs.audit.AuditLeastLemmas.{answers_least}
+use Rattle.virtiofs_map.proofs.audit.AuditSharedLemmas.{fault_tried}
 use Rattle.virtiofs_map.proofs.audit.candidates.least_guest_name.Goals as goal
 
 pub returns : goal.returns
-returns g c = λ rules others is are maps.
-    let b = bad c.args.question.now in
-    let beginning = c.args.question.now.beginning.bytes.now in
-    let names = guest_names c.args.side others rules ++ one_byte_names in
-    let first : c.try_name.new.self ≡ try_one b none_tried beginning = c.in_ok-try_name.ensures.tried maps
-    ∙ ap (λ t. try_one b t beginning) c.new-tried.ensures in
-    finds_from_none b (beginning ∷ names) c.try_guest_names.new.tried c.into_answer.result
-    (finds_first b beginning names c.try_name.new.self c.try_guest_names.new.tried first
-    (c.in_ok-try_guest_names.ensures.tried rules others is are maps).finds) c.into_answer.ensures.found
-    c.into_answer.ensures.name
+returns g c =
+    let question = c.args.question.now in
+    let fault = question.fault in
+    let beginning = question.beginning.bytes.now in
+    let side = side_of fault in
+    let end = c.try_one_byte_names.new.tried in
+    let tries : (rules others : List MappingRule) → IsAskedOf question rules others
+    → Tries (IsBad question rules others) (GuestTried side rules (other_rules fault rules others) beginning)
+    (most_guest_names side (other_rules fault rules others) rules) none_tried end =
+    λ rules others asked.
+    (let patterns = c.in_ok-patterns.ensures.parts (other_rules fault rules others) asked.other in
+    guest_tries (IsBad question rules others) side rules (other_rules fault rules others) beginning
+    c.deref.result.now c.deref-2.result.now c.deref-3.result.now c.new-tried.result c.look_at.new.self
+    c.try_rests_of.new.tried c.try_rests.new.tried end c.new-tried.ensures
+    (subst (IsPermutation _) (sym c.deref.ensures.value) (c.in_ok-keys.ensures.parts rules asked.map))
+    (subst (IsPermutation _) (sym c.deref-2.ensures.value) (c.in_ok-all_added.ensures.parts rules asked.map))
+    (subst (IsPermutation _) (sym c.deref-3.ensures.value)
+    (subst (λ s. IsPermutation (parts (Host s) (other_rules fault rules others)) c.in_ok-patterns.patterns.items)
+    c.side.ensures patterns))
+    (c.in_ok-look_at.ensures.tried rules others asked) (c.in_ok-try_rests_of.ensures rules others asked)
+    (c.in_ok-try_rests.ensures rules others asked) (c.in_ok-try_one_byte_names.ensures.tried rules others asked)) in
+    record {
+      answer = λ rules others asked.
+          answers_least (IsBad question rules others) (GuestTried side rules (other_rules fault rules others) beginning)
+          _ end c.into_answer.result (tries rules others asked)
+          (fault_tried fault rules others c.requires asked.map.no_zero beginning) c.into_answer.ensures;
+      counted = λ rules others asked.
+          counts_between (IsBad question rules others) _ _ end c.args.steps.now c.add.new.self
+          (tries rules others asked) c.in_ok-try_one_byte_names.ensures.counted
+          (c.add.ensures ∙ ap (count_after c.args.steps.now) c.steps.ensures);
+      uncounted = tt;
+    }

@@ -1,15 +1,24 @@
-use Rattle.std.proofs.Common.{◌≡◌, ◌∷◌, ◌++◌, ap, ◌∙◌}
-use Rattle.virtiofs_map.specs.AuditParts.{bad, none_tried, host_names, one_byte_names, try_one}
-use Rattle.virtiofs_map.proofs.audit.AuditLeastLemmas.{finds_first, finds_from_none}
+use Rattle.std.proofs.Common.{sym, subst}
+use Rattle.std.specs.List.Sorted.{IsPermutation}
+use Rattle.virtiofs_map.specs.AuditParts.{IsBad}
+use Rattle.virtiofs_map.proofs.AuditAlikeLemmas.{HostTried}
+use Rattle.virtiofs_map.proofs.audit.AuditGatheredLemmas.{host_tries}
+use Rattle.virtiofs_map.proofs.audit.AuditLeastLemmas.{answers_least}
+use Rattle.virtiofs_map.proofs.audit.AuditStrayLemmas.{stray_bad_tried}
 use Rattle.virtiofs_map.proofs.audit.candidates.least_host_name.Goals as goal
 
 pub returns : goal.returns
-returns g c = λ rules is maps.
-    let b = bad c.args.question.now in
-    let beginning = c.args.question.now.beginning.bytes.now in
-    let names = host_names rules rules ++ one_byte_names in
-    let first : c.try_name.new.self ≡ try_one b none_tried beginning = c.in_ok-try_name.ensures.tried maps
-    ∙ ap (λ t. try_one b t beginning) c.new-tried.ensures in
-    finds_from_none b (beginning ∷ names) c.try_host_names.new.tried c.into_answer.result
-    (finds_first b beginning names c.try_name.new.self c.try_host_names.new.tried first
-    (c.in_ok-try_host_names.ensures rules is maps)) c.into_answer.ensures.found c.into_answer.ensures.name
+returns g c = λ rules others asked.
+    let question = c.args.question.now in
+    let beginning = question.beginning.bytes.now in
+    let bad = IsBad question rules others in
+    let end = c.try_one_byte_names.new.tried in
+    answers_least bad (HostTried rules beginning) _ end c.into_answer.result
+    (host_tries bad rules beginning c.deref.result.now c.deref-2.result.now c.deref-3.result.now c.new-tried.result
+    c.look_at.new.self c.try_rests_of.new.tried c.try_wholes.new.tried end c.new-tried.ensures
+    (subst (IsPermutation _) (sym c.deref.ensures.value) (c.in_ok-prepends.ensures.parts rules asked.map))
+    (subst (IsPermutation _) (sym c.deref-2.ensures.value) (c.in_ok-cuts.ensures.parts rules asked.map))
+    (subst (IsPermutation _) (sym c.deref-3.ensures.value) (c.in_ok-keys.ensures.parts rules asked.map))
+    (c.in_ok-look_at.ensures.tried rules others asked) (c.in_ok-try_rests_of.ensures rules others asked)
+    (c.in_ok-try_wholes.ensures rules others asked) (c.in_ok-try_one_byte_names.ensures.tried rules others asked))
+    (stray_bad_tried question.fault rules others c.requires beginning) c.into_answer.ensures

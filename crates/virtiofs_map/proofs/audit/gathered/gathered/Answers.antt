@@ -1,4 +1,7 @@
-use Rattle.std.proofs.Common.{◌≡◌, List, ℕ, ◌++◌, append-nil, sym, ap, subst, ◌∙◌, arith}
+use Rattle.std.proofs.Common.{◌≡◌, List, ℕ, ◌++◌, append-nil, sym, ap, subst, ◌∙◌, arith, rules}
+use Rattle.std.specs.Cmp.Lexicographic.{slice_cmp, nat_list_cmp_total}
+use Rattle.std.specs.Ordering.{nat_cmp, is_lt}
+use Rattle.std.proofs.lemmas.List.Sorted.{ranks_by, answers_always}
 use Rattle.std.proofs.lemmas.List.{drop_all}
 use Rattle.std.specs.List.{filter_map}
 use Rattle.std.specs.List.Sorted.{IsPermutation}
@@ -32,12 +35,18 @@ loop-place-preserved-in_default-2 g c = λ rules is.
     (c.in_ok-name.ensures (rule_has HasNoZero rules c.loop-place.place (rule_meant c.in-Some.rule) is.no_zero here))
     (none_is c.in_ok-name.field-0 c.in_default-2.not-Some)
 
-pub returns : goal.returns
-returns g c = λ rules is.
+pub returns-clause-parts : goal.returns-clause-parts
+returns-clause-parts g c = λ rules is.
     let f = part_of c.args.part in
     let names = c.loop-place.names.items in
     let behind =
     drop_all c.loop-place.place rules (omega (arith, c.len-place-end.ensures rules is, c.loop-place-test.false)) in
     let whole : names ≡ filter_map f rules = sym (append-nil names) ∙ ap (λ l. names ++ filter_map f l) (sym behind)
     ∙ c.loop-place.invariant rules is in
-    subst (λ (l : List (List ℕ)). IsPermutation l c.new.result) whole c.new.ensures
+    subst (λ (l : List (List ℕ)). IsPermutation l c.sort_unstable_by.new.self.items) whole
+    c.sort_unstable_by.ensures.permutation
+
+pub returns-clause-ordered : goal.returns-clause-ordered
+returns-clause-ordered g c =
+    c.sort_unstable_by.ensures.sorted (λ (a b : List ℕ). is_lt (slice_cmp nat_cmp a b))
+    (ranks_by nat_list_cmp_total (λ (a : List ℕ). a)) (answers_always _ _ _ (λ f a r q k. search rules))

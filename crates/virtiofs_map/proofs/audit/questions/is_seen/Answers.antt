@@ -1,16 +1,34 @@
-use Rattle.std.proofs.Common.{◌≡◌, true, not, sym, ap, ◌∙◌}
-use Rattle.virtiofs_map.specs.AuditParts.{some_byte, all_bytes}
-use Rattle.virtiofs_map.proofs.audit.AuditPassLemmas.{all_bytes_below, where_result}
-use Rattle.virtiofs_map.proofs.audit.AuditSeenLemmas.{is_shown}
+use Rattle.std.proofs.Common.{◌<◌, sym, ◌∙◌, subst}
+use Rattle.std.specs.List.{All}
+use Rattle.virtiofs_map.specs.Audit.{IsSeen}
+use Rattle.virtiofs_map.proofs.AuditAddedLemmas.{hidden_iff}
+use Rattle.virtiofs_map.proofs.audit.AuditPassLemmas.{empty_is, some_is, never, not_passing, host_is, host_is_name}
+use Rattle.virtiofs_map.proofs.audit.AuditSeenLemmas.{seen_iff}
 use Rattle.virtiofs_map.proofs.audit.questions.is_seen.Goals as goal
 
-pub returns-then-not-is_empty : goal.returns-then-not-is_empty
-returns-then-not-is_empty g c = λ rules others map other.
+pub returns-in_default : goal.returns-in_default
+returns-in_default g c = λ rules others map other is.
+    never (IsSeen rules others c.args.name.now)
+    (λ bad. not_passing rules c.args.name.now bad.host (c.in_default.ensures rules map) bad.passes)
+
+pub returns-then-is_empty : goal.returns-then-is_empty
+returns-then-is_empty g c = λ rules others map other is.
+    let name = c.args.name.now in
+    never (IsSeen rules others name)
+    (λ bad. bad.not_empty
+    (host_is rules name bad.host c.in-Some.added.now bad.passes (c.in-Some.ensures rules map)
+    ∙ sym (c.as_slice-host.ensures.value ∙ c.in_ok-put_together.ensures)
+    ∙ empty_is c.as_slice-host.result.now (sym c.is_empty.ensures ∙ c.if-is_empty.true)))
+
+pub returns : goal.returns
+returns g c = λ rules others map other is.
+    let name = c.args.name.now in
+    let added = c.in-Some.added.now in
     let host = c.as_slice-host.result.now in
-    let is = c.as_slice-host.ensures.value in
-    let some : some_byte host ≡ true = ap not (sym (c.is_empty.ensures) ∙ c.if-not-is_empty.true) in
-    let bytes : all_bytes host ≡ true = ap all_bytes is
-    ∙ all_bytes_below c.put_together.new.room.items c.type_inv.room in
-    where_result (is_shown others) rules c.args.name.now c.in-Some.added.now host
-    (not c.is_hidden.result) (c.in-Some.ensures rules map) (is ∙ c.in_ok-put_together.ensures) some bytes
-    (ap not (c.is_hidden.ensures others other))
+    let at = c.in-Some.ensures rules map in
+    let same = c.as_slice-host.ensures.value ∙ c.in_ok-put_together.ensures in
+    let below = subst (All (λ byte. byte < 256)) (sym c.as_slice-host.ensures.value) c.type_inv.room in
+    seen_iff rules others name added host c.is_hidden.result is at same
+    (host_is_name rules name added host map.no_zero is at same below)
+    (some_is host (sym c.is_empty.ensures ∙ c.if-is_empty.false))
+    (hidden_iff others host c.is_hidden.result (c.is_hidden.ensures others other))

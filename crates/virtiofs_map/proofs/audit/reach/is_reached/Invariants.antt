@@ -1,7 +1,6 @@
 use Rattle.std.proofs.Common.{List, length}
-use Rattle.std.specs.List.{filter_map}
 use Rattle.std.specs.List.Sorted.{IsPermutation}
-use Rattle.virtiofs_map.specs.GatheredParts.{part_of}
+use Rattle.virtiofs_map.specs.AuditParts.{parts}
 use Rattle.virtiofs_map.specs.NamesImage.{IsMapOf}
 use Rattle.virtiofs_map.specs.Rule.{MappingRule}
 use Rattle.virtiofs_map.specs.declared.audit.gathered.Part.TheVariants.{Added}
@@ -14,4 +13,4 @@ decreases-loop-last g l = length l.rest
 
 abbrev pub invariant-loop-last : goal.invariant-loop-last
 invariant-loop-last g l = (rules : List MappingRule) → IsMapOf rules l.map
-    → IsPermutation (filter_map (part_of (Added Client)) rules) l.all_added → IsLeft rules l.all_added l.host l.rest
+    → IsPermutation (parts (Added Client) rules) l.all_added → IsLeft rules l.all_added l.host l.rest

@@ -1,11 +1,7 @@
 use Rattle.std.proofs.Common.{sym, ◌∙◌}
 use Rattle.std.proofs.lemmas.Str.{IsUtf8-string_bytes}
-use Rattle.virtiofs_map.proofs.SpecificationPrefixLemmas.{IsPrefixSoFar-start, IsPrefixSoFar-more, IsLoweredCut-here}
-use Rattle.virtiofs_map.proofs.SpecificationPrefixLemmas.{AllPass-prefix}
+use Rattle.virtiofs_map.proofs.SpecificationLemmas.{IsPrefixSoFar-more, AllPass-prefix}
 use Rattle.virtiofs_map.proofs.cmdline.reader.cut_prefix.Goals as goal
-
-pub loop-c-init : goal.loop-c-init
-loop-c-init g c = (tt, tt, IsPrefixSoFar-start _ _ _ c.utf8.text c.chars-chars.ensures.rest c.new-word.ensures.bytes)
 
 pub loop-c-preserved : goal.loop-c-preserved
 loop-c-preserved g c =
@@ -17,13 +13,6 @@ loop-c-preserved g c =
           (IsPrefixSoFar-more _ _ _ _ _ _ (IsUtf8-string_bytes c.loop-c.word) lower n.0
           (sym c.is_word_character.ensures ∙ c.if-not-is_word_character.false) c.loop-c.invariant.2),
     )
-
-pub returns-then-not-is_word_character-clause-cut : goal.returns-then-not-is_word_character-clause-cut
-returns-then-not-is_word_character-clause-cut g c =
-    let n = c.in-Some.ensures.steps in
-    rw c.as_str-rest.ensures
-    (IsLoweredCut-here _ _ _ _ _ n.0 (sym c.is_word_character.ensures ∙ c.if-not-is_word_character.true)
-    c.loop-c.invariant.2)
 
 pub returns-clause-none : goal.returns-clause-none
 returns-clause-none g c = let n = c.in_default.ensures.steps in AllPass-prefix _ _ _ n.0.0 c.loop-c.invariant.2

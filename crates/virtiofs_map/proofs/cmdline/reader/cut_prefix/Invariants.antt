@@ -1,6 +1,6 @@
 use Rattle.std.proofs.Common.{string_bytes}
 use Rattle.std.specs.Str.Iter.{chars_rest}
-use Rattle.virtiofs_map.proofs.SpecificationPrefixLemmas.{IsPrefixSoFar}
+use Rattle.virtiofs_map.proofs.SpecificationLemmas.{IsPrefixSoFar}
 use Rattle.virtiofs_map.proofs.cmdline.reader.cut_prefix.Given as goal
 
 -- the characters so far are word characters, and the word is these in lower case

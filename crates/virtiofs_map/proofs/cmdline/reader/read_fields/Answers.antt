@@ -1,7 +1,7 @@
 use Rattle.std.proofs.Common.{◌++◌, ◌∷◌, [], List, ℕ, ap, sym, ◌∙◌, rules, append_assoc, chars}
 use Rattle.std.proofs.lemmas.Result.{err_from_is_err_and}
 use Rattle.virtiofs_map.specs.Numeral.{IsNumeral}
-use Rattle.virtiofs_map.proofs.SpecificationLemmas.{split_at_each-cut, split_at_each-last, IsFieldsFault-here}
+use Rattle.virtiofs_map.proofs.SpecificationLemmas.{split_at_each-cut, IsFieldsFault-here}
 use Rattle.virtiofs_map.proofs.ZipLemmas.{AllZip-push}
 use Rattle.virtiofs_map.proofs.cmdline.reader.read_fields.Goals as goal
 
@@ -28,20 +28,3 @@ loop-field-preserved g c =
         rw c.in_ok-push.ensures.items (AllZip-push IsNumeral done _ field _ read c.in_ok-read_field.ensures.answer),
       ),
     )
-
-pub returns-in_err-read_field-2-clause-refused : goal.returns-in_err-read_field-2-clause-refused
-returns-in_err-read_field-2-clause-refused g c =
-    let p = err_from_is_err_and c.from_residual-in_err-read_field-2.result
-    c.from_residual-in_err-read_field-2.ensures.1 in
-    let (done, so_far, read) = c.loop-field.invariant.1 in
-    let last = split_at_each-last c.args.separator _ c.in_default.ensures.absent in
-    rw (p.1, p.2)
-    (IsFieldsFault-here _ done _ _ _ _ (so_far ∙ ap (λ (xs : List (List ℕ)). done ++ xs) last) read
-    c.in_err-read_field-2.ensures.answer)
-
-pub returns-clause-read : goal.returns-clause-read
-returns-clause-read g c =
-    let (done, so_far, read) = c.loop-field.invariant.1 in
-    let last = split_at_each-last c.args.separator _ c.in_default.ensures.absent in
-    let whole = so_far ∙ ap (λ (xs : List (List ℕ)). done ++ xs) last in
-    rw (whole, c.in_ok-push-2.ensures.items) (AllZip-push IsNumeral done _ _ _ read c.in_ok-read_field-2.ensures.answer)

@@ -9,12 +9,6 @@ pub returns-in-Becomes-clause-becomes : goal.returns-in-Becomes-clause-becomes
 returns-in-Becomes-clause-becomes g c =
     SaysIn-becomes _ _ _ _ (c.in-Becomes.ensures.says c.args.self.now c.args.direction c.ranges-2.ensures.ranges)
 
-pub returns-in-Becomes-clause-steps : goal.returns-in-Becomes-clause-steps
-returns-in-Becomes-clause-steps g c = rw c.ranges-2.ensures.counted at c.look_up.ensures.steps
-
 pub returns-in-Fails-clause-becomes : goal.returns-in-Fails-clause-becomes
 returns-in-Fails-clause-becomes g c =
     SaysIn-fails _ _ _ (c.in-Fails.ensures.says c.args.self.now c.args.direction c.ranges-2.ensures.ranges)
-
-pub returns-in-Fails-clause-steps : goal.returns-in-Fails-clause-steps
-returns-in-Fails-clause-steps g c = rw c.ranges-2.ensures.counted at c.look_up.ensures.steps

@@ -1,5 +1,5 @@
 use Rattle.std.proofs.Common.{◌∙◌}
-use Rattle.virtiofs_map.proofs.soft_idmap.PiecesLemmas.{IsStretch-join, IsPiece-longest}
+use Rattle.virtiofs_map.proofs.PiecesLemmas.{IsStretch-join, IsPiece-longest}
 use Rattle.virtiofs_map.proofs.soft_idmap.IdMap.piece_from.Goals as goal
 
 pub returns-in_default-clause-piece : goal.returns-in_default-clause-piece

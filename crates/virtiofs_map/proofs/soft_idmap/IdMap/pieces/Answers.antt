@@ -1,4 +1,4 @@
-use Rattle.virtiofs_map.proofs.soft_idmap.PiecesLemmas.{ArePieces-drained}
+use Rattle.virtiofs_map.proofs.PiecesLemmas.{ArePieces-drained}
 use Rattle.virtiofs_map.proofs.soft_idmap.IdMap.pieces.Goals as goal
 
 pub returns-clause-all : goal.returns-clause-all

@@ -1,7 +1,7 @@
 use Rattle.std.proofs.Common.{refl}
 use Rattle.std.proofs.lemmas.Bool.{false≢true}
 use Rattle.virtiofs_map.specs.declared.soft_idmap.entry.Direction.TheVariants.{GuestToHost, HostToGuest}
-use Rattle.virtiofs_map.proofs.soft_idmap.FrontLemmas.{Accepted-from_front, preceding_from_accepted}
+use Rattle.virtiofs_map.proofs.FrontLemmas.{Accepted-from_front, preceding_from_accepted}
 use Rattle.virtiofs_map.proofs.soft_idmap.build.is_accepted.Goals as goal
 
 pub returns-then-not-keep_apart : goal.returns-then-not-keep_apart

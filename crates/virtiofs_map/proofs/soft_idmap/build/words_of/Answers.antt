@@ -1,5 +1,5 @@
 use Rattle.virtiofs_map.specs.declared.soft_idmap.entry.Direction.TheVariants.{GuestToHost, HostToGuest}
-use Rattle.virtiofs_map.proofs.soft_idmap.WrittenLemmas.{indexed-count}
+use Rattle.virtiofs_map.proofs.WrittenLemmas.{indexed-count}
 use Rattle.virtiofs_map.proofs.soft_idmap.build.words_of.Goals as goal
 
 pub write_words-requires-clause-guests : goal.write_words-requires-clause-guests

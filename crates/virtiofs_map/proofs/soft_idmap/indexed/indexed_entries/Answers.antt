@@ -1,6 +1,6 @@
 use Rattle.std.proofs.Common.{◌≡◌, ◌≤◌, ℕ, ◌∙◌, sym, refl, arith}
 use Rattle.std.proofs.lemmas.Bool.{false≢true}
-use Rattle.virtiofs_map.proofs.soft_idmap.indexed.IndexedEntryLemmas.{AreIndexed-add, AreIndexed-empty, AreIndexed-no_entry}
+use Rattle.virtiofs_map.proofs.FrontLemmas.{AreIndexed-add, AreIndexed-empty, AreIndexed-no_entry}
 use Rattle.virtiofs_map.proofs.soft_idmap.indexed.indexed_entries.Goals as goal
 use Rattle.virtiofs_map.proofs.soft_idmap.indexed.indexed_entries.Goals.{in-Some+then-not-is_empty+in_ok-push}
 use Rattle.virtiofs_map.proofs.soft_idmap.indexed.indexed_entries.Goals.{in-Some+else-not-is_empty, in_default}

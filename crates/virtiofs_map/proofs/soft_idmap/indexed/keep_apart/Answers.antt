@@ -1,6 +1,6 @@
 use Rattle.std.proofs.Common.{arith}
 use Rattle.std.proofs.lemmas.Bool.{false≢true}
-use Rattle.virtiofs_map.proofs.soft_idmap.FrontLemmas.{KeepsApartTo-add, KeepsApartTo-pass, overlap_found}
+use Rattle.virtiofs_map.proofs.FrontLemmas.{KeepsApartTo-add, KeepsApartTo-pass, overlap_found}
 use Rattle.virtiofs_map.proofs.soft_idmap.indexed.keep_apart.Goals as goal
 use Rattle.virtiofs_map.proofs.soft_idmap.indexed.keep_apart.Goals.{then-one-count+else-from-end, else-one-count}
 

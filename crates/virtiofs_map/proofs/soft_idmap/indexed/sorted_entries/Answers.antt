@@ -1,7 +1,7 @@
 use Rattle.std.proofs.Common.{rules}
 use Rattle.std.proofs.lemmas.List.Sorted.{IsNonDecreasingBy-from_sort_by_key}
 use Rattle.virtiofs_map.specs.Mapping.{first_of}
-use Rattle.virtiofs_map.proofs.soft_idmap.indexed.IndexedEntryLemmas.{AreIndexed-permutation}
+use Rattle.virtiofs_map.proofs.FrontLemmas.{AreIndexed-permutation}
 use Rattle.virtiofs_map.proofs.soft_idmap.indexed.sorted_entries.Goals as goal
 
 pub returns : goal.returns

@@ -1,25 +1,6 @@
-use Rattle.std.proofs.Common.{◌∙◌, ◌+◌, ◌/◌, inl, inr, refl, arith}
-use Rattle.virtiofs_map.proofs.SearchLemmas.{HasDigitsFor-start, HasDigitsFor-less}
-use Rattle.virtiofs_map.proofs.WordLemmas.{Searches-start, Searches-turn, CountsBetween-one}
+use Rattle.std.proofs.Common.{◌∙◌, ◌+◌, ◌/◌, inl, refl, arith}
+use Rattle.virtiofs_map.proofs.WordLemmas.{HasDigitsFor-less, Searches-turn}
 use Rattle.virtiofs_map.proofs.soft_idmap.lookup.last_from.Goals as goal
-
-pub returns-then-len-eq1-clause-found : goal.returns-then-len-eq1-clause-found
-returns-then-len-eq1-clause-found c =
-    Searches-start c.args.ranges.now c.args.n _ _ c.first.ensures (omega (arith, c.first.ensures)) (omega arith)
-
-pub returns-then-len-eq1-clause-steps : goal.returns-then-len-eq1-clause-steps
-returns-then-len-eq1-clause-steps c = CountsBetween-one _ _ _ (omega arith) c.read.ensures.counted
-
-pub loop-size-init : goal.loop-size-init
-loop-size-init c = record {
-  some = omega arith;
-  within = omega arith;
-  digits = HasDigitsFor-start _ _ _ (omega arith) c.new-taken.ensures;
-  begun = inr (omega arith);
-  searched =
-      Searches-start c.args.ranges.now c.args.n c.first-last.result.index _ c.first-last.ensures (omega arith)
-      (omega arith);
-}
 
 pub loop-size-preserved : goal.loop-size-preserved
 loop-size-preserved c = record {

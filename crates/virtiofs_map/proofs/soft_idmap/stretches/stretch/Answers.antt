@@ -3,8 +3,8 @@ use Rattle.std.proofs.lemmas.Bool.{false≢true}
 use Rattle.std.proofs.lemmas.Option.{same_Some}
 use Rattle.virtiofs_map.specs.Mapping.{first_of}
 use Rattle.virtiofs_map.specs.WordParts.{Searches}
-use Rattle.virtiofs_map.proofs.soft_idmap.stretches.StretchLemmas.{range_at, next_above, no_next, IsStretch-covered}
-use Rattle.virtiofs_map.proofs.soft_idmap.stretches.StretchLemmas.{IsStretch-kept, IsStretch-below, IsStretch-after}
+use Rattle.virtiofs_map.proofs.StretchLemmas.{range_at, next_above, no_next, IsStretch-covered}
+use Rattle.virtiofs_map.proofs.StretchLemmas.{IsStretch-kept, IsStretch-below, IsStretch-after}
 use Rattle.virtiofs_map.proofs.soft_idmap.stretches.stretch.Goals as goal
 
 pub returns-then-len-eq0-clause-stretch : goal.returns-then-len-eq0-clause-stretch

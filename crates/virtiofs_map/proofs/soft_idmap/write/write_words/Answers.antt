@@ -1,5 +1,5 @@
 use Rattle.std.proofs.Common.{◌∙◌, ◌+◌, ◌*◌, length, arith}
-use Rattle.virtiofs_map.proofs.soft_idmap.WrittenLemmas.{firsts_kept, rows_kept, keeps_further, IsImage-written}
+use Rattle.virtiofs_map.proofs.WrittenLemmas.{firsts_kept, rows_kept, keeps_further, IsImage-written}
 use Rattle.virtiofs_map.proofs.soft_idmap.write.write_words.Goals as goal
 
 pub returns : goal.returns

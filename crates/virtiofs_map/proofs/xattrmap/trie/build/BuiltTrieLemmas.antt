@@ -1,38 +1,33 @@
--- Nodes that were built from patterns: their answers, and that they are exactly those of the text nodes of a trie.
-use Rattle.std.proofs.Common.{◌≡◌, ℕ, zero, suc, ◌+◌, ◌*◌, ◌<◌, ◌≤◌, Bool, true, List, [], ◌∷◌, ◌++◌, Some}
-use Rattle.std.proofs.Common.{length, take, drop, get_or, inl, inr, refl, sym, ap, subst, ◌∙◌, arith, map, Option}
-use Rattle.std.proofs.Common.{append-nil, ◌≢◌, All, Contains, slice_get, flat_map, option_map, take_all, get_or-take}
-use Rattle.std.proofs.Common.{get_or-drop}
+-- Nodes that were built from patterns are a trie of them.
+use Rattle.std.proofs.Common.{◌≡◌, ◌⊎◌, ℕ, zero, suc, ◌+◌, ◌-◌, ◌*◌, ◌<◌, ◌≤◌, Bool, true, false, List, [], ◌∷◌}
+use Rattle.std.proofs.Common.{◌++◌, Some, length, take, drop, get_or, inl, inr, refl, sym, ap, subst, ◌∙◌, arith}
+use Rattle.std.proofs.Common.{All, Contains, slice_get}
 use Rattle.std.specs.List.{position_or_len}
+use Rattle.std.specs.Option.{option_map_or}
 use Rattle.std.proofs.lemmas.Bool.{cases_lt, cases_Bool, and_parts, and_from, ltb-true, lt-ltb}
-use Rattle.std.proofs.lemmas.List.{take-append-drop, take-take, take_at, take-append-le, length-map, length_push}
+use Rattle.std.proofs.lemmas.List.{take-append-drop, take-take, take_at, drop-take, drop-drop}
 use Rattle.std.proofs.lemmas.List.Sums.{passes_at_first}
-use Rattle.std.proofs.lemmas.Option.{slice_get_cases, slice_get_within, slice_get_read, slice_get-get_or, slice_get-map}
+use Rattle.std.proofs.lemmas.Option.{slice_get_cases, slice_get_within, slice_get_read, slice_get-get_or}
 use Rattle.std.proofs.lemmas.Option.{get_or_from_slice_get}
-use Rattle.virtiofs_map.specs.NodeParts.{no_answer, answer_of, AreFew, IsPattern, ArePatterns}
+use Rattle.virtiofs_map.specs.NodeParts.{no_answer, answer_of, AreFew, IsPattern, ArePatterns, label_of, IsChild}
+use Rattle.virtiofs_map.specs.NodeParts.{AreInSlots, BeginsPattern, IsNode, IsTrie, IsBounded}
 use Rattle.virtiofs_map.specs.FirstRule.{acts, pattern}
-use Rattle.virtiofs_map.specs.TrieBuildParts.{text, number, start_of, AreReady, IsLeast, IsUpto, IsPatternRange}
-use Rattle.virtiofs_map.specs.TrieBuildParts.{path_of_range, AreExact, AreBuilt, AreRangesOrHoles, IsLonger}
-use Rattle.virtiofs_map.specs.TrieBuildParts.{text_node_of}
+use Rattle.virtiofs_map.specs.TrieBuildParts.{text, number, start_of, AreReady, IsLeast, IsUpto, IsPatternRange, IsKid}
+use Rattle.virtiofs_map.specs.TrieBuildParts.{path_of_range, AreBuilt, IsBuilt, AreRangesOrHoles}
 use Rattle.virtiofs_map.specs.Names.{begins, fits}
 use Rattle.virtiofs_map.specs.Rule.{MappingRule, type_number}
 use Rattle.virtiofs_map.specs.declared.xattrmap.trie.build.PatternRange.{PatternRange}
+use Rattle.virtiofs_map.specs.declared.xattrmap.trie.node.Node.{Node}
 use Rattle.virtiofs_map.specs.declared.xattrmap.trie.patterns.Pattern.{Pattern}
 use Rattle.virtiofs_map.specs.declared.xattrmap.scopes.Side.{Side}
 use Rattle.virtiofs_map.proofs.xattrmap.trie.build.AnswerLemmas.{IsLeast-same}
 use Rattle.virtiofs_map.proofs.BeginsLemmas.{begins_split, begins_from, begins_length}
 use Rattle.virtiofs_map.proofs.RuleRowLemmas.{below_four}
+use Rattle.virtiofs_map.proofs.xattrmap.trie.build.KidLemmas.{kid_path}
+use Rattle.virtiofs_map.proofs.xattrmap.trie.build.PatternOrderLemmas.{ends, no_zero}
 use Rattle.virtiofs_map.proofs.xattrmap.trie.build.PatternTextLemmas.{text-here, number-here, start_of-here}
-use Rattle.virtiofs_map.proofs.xattrmap.trie.build.RangeTextNodeLemmas.{path_size, text_node_real, text_node_hole}
+use Rattle.virtiofs_map.proofs.xattrmap.trie.build.RangePathLemmas.{path_size, goes_in}
 use Rattle.virtiofs_map.proofs.xattrmap.FittingLemmas.{fits_is}
-use Rattle.std.proofs.lemmas.List.Concat.{flat_map-append}
-use Rattle.virtiofs_map.proofs.xattrmap.trie.NodesOfLemmas.{node_at, length-nodes}
-use Rattle.virtiofs_map.specs.PatternTrie.{TextNode, root, text_nodes, longest_label}
-use Rattle.virtiofs_map.specs.TrieParts.{texts_of, children_of, node_with, answer_at, nodes_from, nodes_of}
-use Rattle.virtiofs_map.specs.declared.xattrmap.trie.node.Node.{Node}
-use Rattle.virtiofs_map.proofs.xattrmap.trie.PatternTrieLemmas.{text_nodes_only}
-use Rattle.virtiofs_map.proofs.xattrmap.trie.build.LevelLemmas.{root as root_at}
-use Rattle.virtiofs_map.proofs.xattrmap.trie.build.AppendedRangeLemmas.{push_cases}
 
 -- ---- rules and their patterns
 
@@ -196,128 +191,247 @@ answered side rules bytes patterns of_rules few ready range is value least =
                 ∙ take_at (text patterns i) (drop (length (text patterns i)) path) (length (text patterns i)) refl;
           }
 
--- ---- the nodes are exactly those of the text nodes
+-- bytes of a part of a front
+inner_bytes : (n k l : ℕ) (ys : List ℕ) → k + l ≤ n → take l (drop k (take n ys)) ≡ take l (drop k ys)
+inner_bytes n k l ys b =
+    subst (λ m. take l (drop k (take m ys)) ≡ take l (drop k ys)) (omega arith)
+    (ap (take l) (drop-take k (n - k) ys) ∙ take-take l (n - k) (drop k ys) (omega arith))
 
-take_push : {X : Type 0} (xs : List X) (at : ℕ) (x : X) → slice_get xs at ≡ Some x
-    → take (suc at) xs ≡ take at xs ++ x ∷ []
-take_push [] at x e = absurd cc
-take_push (y ∷ xs) zero x e = let same : y ≡ x = cc in ap (λ z. z ∷ []) same
-take_push (y ∷ xs) (suc at) x e = ap (λ ys. y ∷ ys) (take_push xs at x e)
+-- ---- nodes
 
-module _ (patterns : List Pattern) where
-  abbrev of : PatternRange → Option TextNode
-  of = text_node_of patterns
+-- the path of the range at a place
+abbrev pub path_of : List Pattern → List PatternRange → ℕ → List ℕ
+path_of patterns ranges at = option_map_or (path_of_range patterns) (slice_get ranges at) []
 
-  abbrev below : Option TextNode → List (Option TextNode)
-  below = children_of patterns
-
-  -- one node more
-  pub exact_more : (old new : List PatternRange) (nodes : List Node) (node : Node) (at : ℕ) (range : PatternRange)
-      → at ≡ length nodes → slice_get old at ≡ Some range → IsLonger old new
-      → map of new ≡ map of old ++ below (of range)
-      → node ≡ node_with patterns node.answer (length old) (of range)
-      → AreExact patterns old nodes → AreExact patterns new (nodes ++ node ∷ [])
-  exact_more old new nodes node at range is here longer text_nodes made are =
-      let more : length (nodes ++ node ∷ []) ≡ suc at = omega (arith, length_push nodes node, is) in
-      let inside = slice_get_within old at range here in
-      let old_size = length-map old of in
-      let text_node_here : slice_get (map of old) at ≡ Some (of range) =
-      slice_get-map of old at ∙ ap (option_map of) here in
-      let before : (k : ℕ) → k ≤ length old → take k (map of new) ≡ take k (map of old) =
-      (grind (arith, take-append-le, of, below)) in
-      let order : map of old ≡ Some root ∷ flat_map below (take at (map of old)) =
-      grind (arith, flat_map, below, of) in
-      let count : length old ≡ suc (length (flat_map below (take at (map of old)))) =
-      (omega (arith, ap length order, old_size)) in
-      record {
-        order = text_nodes
-            ∙ ap (λ ns. ns ++ below (of range)) order
-            ∙ ap (λ ns. Some root ∷ ns)
-            (ap (λ ns. flat_map below (take at (map of old)) ++ ns) (sym (append-nil (below (of range))))
-            ∙ sym (flat_map-append below (take at (map of old)) (of range ∷ []))
-            ∙ ap (flat_map below) (sym (take_push (map of old) at (of range) text_node_here)
-            ∙ sym (before (suc at) (omega (arith, inside)))))
-            ∙ ap (λ n. Some root ∷ flat_map below (take n (map of new))) (sym more);
-        exact = grind (arith, push_cases, flat_map, below, of);
-      }
-
-  -- the root alone
-  pub exact_root : AreExact patterns (root_at (length patterns) ∷ []) []
-  exact_root = grind (arith, text_node_real, root_at)
-
-  -- where each place has a node, the text nodes are those of the trie
-  pub all_text_nodes : (ranges : List PatternRange) (nodes : List Node) → AreExact patterns ranges nodes
-      → length nodes ≡ length ranges → map of ranges ≡ text_nodes longest_label (texts_of patterns)
-  all_text_nodes ranges nodes are full = grind (arith, length-map, of, text_nodes_only, flat_map, below, take_all)
-
-same_by_get : {X : Type 0} (xs ys : List X) → length xs ≡ length ys
-    → ((k : ℕ) (x : X) → slice_get xs k ≡ Some x → slice_get ys k ≡ Some x) → xs ≡ ys
-same_by_get [] [] size each = refl
-same_by_get [] (y ∷ ys) size each = absurd (omega arith)
-same_by_get (x ∷ xs) [] size each = absurd (omega arith)
-same_by_get (x ∷ xs) (y ∷ ys) size each =
-    let there = each 0 x refl in
-    let first : y ≡ x = cc in
-    ap (λ z. z ∷ xs) (sym first)
-    ∙ ap (λ zs. y ∷ zs) (same_by_get xs ys (omega arith) (λ k z e. each (suc k) z e))
+-- a child with its range
+record IsChildOf (patterns : List Pattern) (ranges : List PatternRange) (range : PatternRange) (byte next : ℕ)
+    (child : Node) : Type 0 where
+  pub kid : PatternRange
+  pub there : slice_get ranges next ≡ Some kid
+  pub first_byte : kid.first_byte ≡ byte
+  pub is : IsKid patterns range kid
+  pub whole : IsPatternRange patterns kid
+  pub built : IsBuilt patterns ranges kid child
 
 module _ (side : Side) (rules : List MappingRule) (bytes : List ℕ) (patterns : List Pattern)
     (of_rules : ArePatterns side rules bytes patterns) (few : AreFew rules) (ready : AreReady (length bytes) patterns)
     (ranges : List PatternRange) (nodes : List Node) (places : AreRangesOrHoles patterns ranges)
-    (built : AreBuilt patterns ranges nodes) (full : length nodes ≡ length ranges)
-    (are : AreExact patterns ranges nodes) where
-  answer_exact : (at : ℕ) (range : PatternRange) (node : Node) → slice_get ranges at ≡ Some range
-      → slice_get nodes at ≡ Some node → node.answer ≡ answer_at side rules (text_node_of patterns range)
-  answer_exact at range node there here =
-      let made = built.each at range node there here in
-      elim (places.each at range there).is [
-        | inl is ↦
-            (answered side rules bytes patterns of_rules few ready range is node.answer (made.least is)
-            ∙ ap (answer_at side rules) (sym (text_node_real patterns range is.some)))
-        | inr hole ↦
-            grind (arith, text_node_hole)
-      ]
+    (built : AreBuilt patterns ranges nodes) (full : length nodes ≡ length ranges) where
+  -- the range of a node
+  record HasRange (at : ℕ) (node : Node) : Type 0 where
+    pub range : PatternRange
+    pub there : slice_get ranges at ≡ Some range
+    pub made : IsBuilt patterns ranges range node
 
-  -- so the nodes are those of the trie
-  pub exact_all : nodes ≡ nodes_of side rules patterns
-  unfolding nodes_of
-  exact_all =
-      let text_nodes_are = all_text_nodes patterns ranges nodes are full in
-      let made_size = length-nodes side rules patterns 1 (map (text_node_of patterns) ranges) in
-      same_by_get nodes (nodes_from side rules patterns 1 (map (text_node_of patterns) ranges))
-      (omega (arith, length-map ranges (text_node_of patterns), made_size))
-      (λ k node here. let inside = slice_get_within nodes k node here in
-      elim (slice_get_cases ranges k).1 [
-        | inr (past, _) ↦ absurd (omega (arith, inside, past))
-        | inl (range, _, there, _) ↦
-            (let of = text_node_of patterns range in
-            let text_node_here : slice_get (map (text_node_of patterns) ranges) k ≡ Some of =
-            grind (arith, slice_get-map, option_map) in
-            let count = length (flat_map (children_of patterns) (take k (map (text_node_of patterns) ranges))) in
-            let one : 1 + count ≡ suc count = omega arith in
-            node_at side rules patterns 1 (map (text_node_of patterns) ranges) k of text_node_here
-            ∙ ap (λ n. Some (node_with patterns (answer_at side rules of) n of)) one
-            ∙ ap (λ a. Some (node_with patterns a (suc count) of)) (sym (answer_exact k range node there here))
-            ∙ ap Some (sym (are.exact k range node there here)))
-      ])
-      ∙ ap (nodes_from side rules patterns 1) text_nodes_are
+  range_at : (at : ℕ) (node : Node) → slice_get nodes at ≡ Some node → HasRange at node
+  range_at at node here = elim (slice_get_cases ranges at).1 [
+    | inr (past, _) ↦ absurd (omega (arith, slice_get_within nodes at node here, past))
+    | inl (range, _, there, _) ↦
+        record { range = range; there = there; made = built.each at range node there here }
+  ]
 
--- the bytes of a pattern of a rule are bytes, and none is zero
-pub pattern_bytes : (side : Side) (rules : List MappingRule) (bytes : List ℕ) (patterns : List Pattern)
-    → ArePatterns side rules bytes patterns → AreReady (length bytes) patterns
-    → ((k : ℕ) → get_or bytes k 0 < 256) → (rule : MappingRule) → Contains rules rule → acts side rule ≡ true
-    → (k byte : ℕ) → slice_get (pattern side rule) k ≡ Some byte → (byte ≢ 0) × (byte < 256)
-pattern_bytes side rules bytes patterns of_rules ready small rule inside acting k byte e =
-    let there = slice_get_read rules (length rules) inside.0 rule refl inside.1 (sym inside.2) in
-    let found = of_rules.every inside.0 rule there acting in
-    let one = found.0 in
-    let at = found.1.0 in
-    let read : get_or patterns at one ≡ one = found.1.2 in
-    let text : slice_get one.bytes.now k ≡ Some byte = ap (λ t. slice_get t k) found.2 ∙ e in
-    let within = slice_get_within one.bytes.now k byte text in
-    let is_byte = get_or_from_slice_get one.bytes.now k byte 0 text in
-    let full = (subst (λ (p : Pattern). All (λ b. b ≢ 0) p.bytes.now) read (ready.each at one found.1.1).full) k 0 within in
-    let stands = (subst (IsPattern side rules bytes) read (of_rules.each at one found.1.1)).is in
-    let among : get_or one.bytes.now k 0 ≡ get_or bytes (one.start + k) 0 =
-    grind (arith, get_or-take, get_or-drop) in
-    ((λ z. full (is_byte ∙ z)), omega (arith, is_byte, among, small (one.start + k)))
+  module _ (at : ℕ) (range : PatternRange) (node : Node) (there : slice_get ranges at ≡ Some range)
+      (here : slice_get nodes at ≡ Some node) (is : IsPatternRange patterns range) where
+    made : IsBuilt patterns ranges range node
+    made = built.each at range node there here
+
+    path_here : path_of patterns ranges at ≡ path_of_range patterns range
+    path_here = ap (λ o. option_map_or (path_of_range patterns) o []) there
+
+    child_of : (byte next : ℕ) (child : Node) → IsChild nodes node byte next child
+        → IsChildOf patterns ranges range byte next child
+    child_of byte next child c =
+        let has = range_at next child c.here in
+        let first_byte : has.range.first_byte ≡ byte = sym has.made.first_byte ∙ c.first_byte in
+        record {
+          kid = has.range;
+          there = has.there;
+          first_byte = first_byte;
+          is = (made.kids is).kids next has.range c.from c.below has.there (λ z. c.real (sym first_byte ∙ z));
+          whole = elim (places.each next has.range has.there).is [
+            | inl p ↦ p
+            | inr h ↦ absurd (c.real (sym first_byte ∙ h.first_byte))
+          ];
+          built = has.made;
+        }
+
+    kid_path_here : (byte next : ℕ) (child : Node) (of : IsChildOf patterns ranges range byte next child)
+        → path_of patterns ranges next ≡ path_of_range patterns of.kid
+    kid_path_here byte next child of = ap (λ o. option_map_or (path_of_range patterns) o []) of.there
+
+    label_is : (byte next : ℕ) (child : Node) (of : IsChildOf patterns ranges range byte next child)
+        → label_of bytes child ≡ take of.kid.length (drop (range.depth + 1) (text patterns of.kid.low))
+    label_is byte next child of =
+        let some = of.is.some in
+        let depth = of.is.depth in
+        let pattern_is = rule_of side rules bytes patterns of_rules of.kid.low (omega (arith, of.whole.within, some)) in
+        let at : start_of patterns of.kid.low + (range.depth + 1) ≡ child.label =
+        omega (arith, of.built.label some, depth) in
+        let long = of.whole.long of.kid.low (omega arith) some in
+        ap (λ n. take n (drop child.label bytes)) of.built.size
+        ∙ ap (λ n. take of.kid.length (drop n bytes)) (sym at)
+        ∙ ap (take of.kid.length) (sym (drop-drop (range.depth + 1) (start_of patterns of.kid.low) bytes))
+        ∙ sym (inner_bytes (length (text patterns of.kid.low)) (range.depth + 1) of.kid.length
+        (drop (start_of patterns of.kid.low) bytes) (omega (arith, long, depth)))
+        ∙ ap (λ s. take of.kid.length (drop (range.depth + 1) s)) pattern_is.among
+
+    paths : (byte next : ℕ) (child : Node) → IsChild nodes node byte next child
+        → path_of patterns ranges next ≡ path_of patterns ranges at ++ byte ∷ label_of bytes child
+    paths byte next child c =
+        let of = child_of byte next child c in
+        kid_path_here byte next child of
+        ∙ kid_path is of.is (of.whole.long of.kid.low (omega arith) of.is.some)
+        ∙ ap (λ b. path_of_range patterns range
+        ++ b ∷ take of.kid.length (drop (range.depth + 1) (text patterns of.kid.low))) of.first_byte
+        ∙ ap (λ l. path_of_range patterns range ++ byte ∷ l) (sym (label_is byte next child of))
+        ∙ ap (λ s. s ++ byte ∷ label_of bytes child) (sym path_here)
+
+    -- the pattern of a rule that goes on with a byte
+    goes_on_at : (byte : ℕ) (rule : MappingRule) → Contains rules rule → acts side rule ≡ true
+        → begins (path_of patterns ranges at ++ byte ∷ []) (pattern side rule) ≡ true
+        → (i : ℕ) × (i < length patterns) × (text patterns i ≡ pattern side rule) × (range.low ≤ i) × (i < range.high)
+        × (range.depth < length (text patterns i)) × (get_or (text patterns i) range.depth 0 ≡ byte)
+    goes_on_at byte rule holds acting b =
+        let has =
+        pattern_at side rules bytes patterns of_rules holds.0 rule
+        (slice_get_read rules (length rules) holds.0 rule refl holds.1 (sym holds.2)) acting in
+        let starts : begins (path_of_range patterns range ++ byte ∷ []) (text patterns has.at) ≡ true =
+        ap (λ w. begins (w ++ byte ∷ []) (text patterns has.at)) (sym path_here)
+        ∙ ap (begins (path_of patterns ranges at ++ byte ∷ [])) has.are ∙ b in
+        let inside = goes_in ready is has.at byte has.within starts in
+        (has.at, has.within, has.are, inside.0, inside.1, inside.2, inside.3)
+
+    whole : (byte next : ℕ) (child : Node) (rule : MappingRule) → IsChild nodes node byte next child
+        → Contains rules rule → acts side rule ≡ true
+        → begins (path_of patterns ranges at ++ byte ∷ []) (pattern side rule) ≡ true
+        → begins (path_of patterns ranges next) (pattern side rule) ≡ true
+    whole byte next child rule c holds acting b =
+        let of = child_of byte next child c in
+        let found = goes_on_at byte rule holds acting b in
+        let in' = of.is.group found.0 found.3 found.4 (found.6 ∙ sym of.first_byte ∙ of.is.first_byte) in
+        begins_from (path_of patterns ranges next) (pattern side rule) (drop of.kid.depth (text patterns found.0))
+        (sym found.2 ∙ sym (take-append-drop of.kid.depth (text patterns found.0))
+        ∙ ap (λ s. s ++ drop of.kid.depth (text patterns found.0))
+        (of.whole.same found.0 in'.0 in'.1 ∙ sym (kid_path_here byte next child of)))
+
+    complete : (byte : ℕ) (rule : MappingRule) → Contains rules rule → acts side rule ≡ true
+        → begins (path_of patterns ranges at ++ byte ∷ []) (pattern side rule) ≡ true
+        → (next : ℕ) × (child : Node) × IsChild nodes node byte next child
+    complete byte rule holds acting b =
+        let found = goes_on_at byte rule holds acting b in
+        let has = (made.kids is).complete found.0 found.3 found.4 found.5 in
+        elim (slice_get_cases nodes has.at).1 [
+          | inr (past, _) ↦ absurd (omega (arith, slice_get_within ranges has.at has.kid has.here, past))
+          | inl (child, _, e, _) ↦ (
+            has.at,
+            child,
+            record {
+              from = has.from;
+              below = has.before;
+              here = e;
+              first_byte = (built.each has.at has.kid child has.here e).first_byte ∙ has.first_byte ∙ found.6;
+              real = λ z. no_zero ready found.0 range.depth found.1 found.5 (found.6 ∙ z);
+            },
+          )
+        ]
+
+    slots : node.is_sparse ≡ false → AreInSlots nodes node
+    slots s = record {
+      low_byte = made.low_byte;
+      high = made.high;
+      slots = λ k child b e ne.
+          (let has = range_at (node.base + k) child e in
+          let same = has.made.first_byte in
+          let at = (made.kids is).placed s (node.base + k) has.range (omega arith) (omega arith) has.there
+          (λ z. ne (same ∙ z)) in
+          omega (arith, same, at));
+    }
+
+    label_within : node.label + node.length ≤ length bytes
+    label_within =
+        let size = made.size in
+        elim (cases_lt range.low range.high) [
+          | inl l ↦
+              omega (
+                arith,
+                made.label l,
+                ends ready range.low (omega (arith, is.within)),
+                is.long range.low (omega arith) l,
+                size,
+              )
+          | inr g ↦
+              (let same : range.low ≡ range.high = omega (arith, is.rising) in
+              omega (arith, made.bare same, (places.each at range there).empty same, size))
+        ]
+
+    -- the path begins the first pattern of the range
+    front : (path_of patterns ranges at ≡ []) ⊎ BeginsPattern side rules (path_of patterns ranges at)
+    front = elim is.some [
+      | inl z ↦ inl (path_here ∙ ap (λ n. take n (text patterns range.low)) z)
+      | inr l ↦
+          (let of = rule_of side rules bytes patterns of_rules range.low (omega (arith, is.within)) in
+          let more = drop range.depth (text patterns range.low) in
+          inr record {
+            rule = of.rule;
+            inside = (
+              of.place,
+              slice_get_within rules of.place of.rule of.here,
+              get_or_from_slice_get rules of.place of.rule of.rule of.here,
+            );
+            acting = of.acting;
+            starts = begins_from (path_of patterns ranges at) (pattern side of.rule) more
+                (sym of.are ∙ sym (take-append-drop range.depth (text patterns range.low))
+                ∙ ap (λ s. s ++ more) (sym path_here));
+          })
+    ]
+
+    is_node : IsNode side rules nodes bytes (path_of patterns ranges) at node
+    is_node = record {
+      answers = answered side rules bytes patterns of_rules few ready range is node.answer (made.least is)
+          ∙ ap (answer_of side rules) (sym path_here);
+      within = omega (arith, made.within);
+      label = label_within;
+      placed = λ s _. slots s;
+      paths = paths;
+      whole = whole;
+      complete = complete;
+      front = front;
+    }
+
+  -- the nodes are a trie
+  pub is_trie : IsTrie side rules nodes bytes
+  is_trie = record {
+    path = path_of patterns ranges;
+    root = omega (arith, built.some);
+    begun = elim (slice_get_cases ranges 0).1 [
+      | inr (past, _) ↦ absurd (omega (arith, built.some))
+      | inl (range, _, e, _) ↦ ap (λ o. option_map_or (path_of_range patterns) o []) e
+          ∙ ap (λ n. take n (text patterns range.low)) (built.root range e)
+    ];
+    each = λ at node here real.
+        (let has = range_at at node here in
+        is_node at has.range node has.there here (elim (places.each at has.range has.there).is [
+          | inl p ↦ p
+          | inr h ↦ absurd (elim real [
+            | inl z ↦ h.deep (built.root has.range (ap (slice_get ranges) (sym z) ∙ has.there))
+            | inr ne ↦ ne (has.made.first_byte ∙ h.first_byte)
+          ])
+        ]));
+  }
+
+  -- and their numbers are bounded
+  pub are_bounded : All (IsBounded nodes bytes) nodes
+  are_bounded k d l =
+      let has = range_at k (get_or nodes k d) (slice_get-get_or nodes k d l) in
+      let place = places.each k has.range has.there in
+      record {
+        answer = has.made.answer;
+        label = elim place.is [
+          | inl is ↦
+              omega (arith, label_within k has.range (get_or nodes k d) has.there (slice_get-get_or nodes k d l) is)
+          | inr h ↦ omega (arith, has.made.bare h.empty)
+        ];
+        size = omega (arith, has.made.size, place.size);
+        base = omega (arith, has.made.within);
+        width = omega (arith, has.made.high, has.made.low_byte);
+      }

@@ -1,15 +1,16 @@
 -- The children of a range, appended one after the other.
-use Rattle.std.proofs.Common.{◌≡◌, ◌≢◌, ℕ, ◌+◌, ◌-◌, ◌<◌, ◌≤◌, List, [], ◌∷◌, ◌++◌, length, take, get_or, inl, inr}
+use Rattle.std.proofs.Common.{◌≡◌, ◌≢◌, ◌⊎◌, Bool, false, Some, slice_get, ℕ, ◌+◌, ◌-◌, ◌<◌, ◌≤◌, List, [], ◌∷◌, ◌++◌, length, take, get_or, inl, inr}
 use Rattle.std.proofs.Common.{sym, ap, subst, ◌∙◌, arith, lit≤, rules}
 use Rattle.std.proofs.lemmas.Bool.{cases_lt}
+use Rattle.std.proofs.lemmas.List.{length_push}
 use Rattle.std.proofs.lemmas.Option.{slice_get_within}
 use Rattle.virtiofs_map.specs.TrieBuildParts.{text, AreReady, IsLeast, IsUpto, IsPatternRange, IsRangeOrHole, AreAdded}
-use Rattle.virtiofs_map.specs.TrieBuildParts.{AreHoles, hole}
+use Rattle.virtiofs_map.specs.TrieBuildParts.{AreHoles, IsKid, hole, next_of}
 use Rattle.virtiofs_map.specs.declared.xattrmap.trie.build.PatternRange.{PatternRange}
 use Rattle.virtiofs_map.specs.declared.xattrmap.trie.patterns.Pattern.{Pattern}
-use Rattle.virtiofs_map.proofs.xattrmap.trie.build.KidLemmas.{IsCut, kid_is_place}
+use Rattle.virtiofs_map.proofs.xattrmap.trie.build.KidLemmas.{IsCut, kid_is, kid_is_place}
 use Rattle.virtiofs_map.proofs.xattrmap.trie.build.PatternOrderLemmas.{no_zero, goes_on, rising}
-use Rattle.virtiofs_map.proofs.xattrmap.trie.build.AppendedRangeLemmas.{push_cases, IsLonger-refl, IsLonger-push}
+use Rattle.virtiofs_map.proofs.xattrmap.trie.build.AppendedRangeLemmas.{still_kid, push_cases, push_last, push_keeps, IsLonger-refl, IsLonger-push}
 use Rattle.virtiofs_map.proofs.xattrmap.trie.build.AppendedRangeLemmas.{IsLonger-trans}
 
 module _ {most : ℕ} {patterns : List Pattern} (ready : AreReady most patterns) {range : PatternRange}
@@ -29,37 +30,78 @@ module _ {most : ℕ} {patterns : List Pattern} (ready : AreReady most patterns)
       goes_on ready i range.depth (λ z. full (omega (arith, row from i l a u)))
 
   -- none yet
-  pub added_none : (ranges : List PatternRange) → AreAdded patterns ranges ranges range
-  added_none ranges = search (rules, IsLonger-refl, slice_get_within)
+  pub added_none : (ranges : List PatternRange) (lowest from : ℕ) (is_sparse : Bool)
+      → ((i : ℕ) → range.low ≤ i → i < from → length (text patterns i) ≡ range.depth)
+      → AreAdded patterns ranges ranges range lowest is_sparse from
+  added_none ranges lowest from is_sparse ended = search (rules, IsLonger-refl, slice_get_within)
 
   -- holes before the next child
-  pub added_holes : (old mid new : List PatternRange) (upto : ℕ) → upto < range.high
-      → range.depth < length (text patterns upto) → AreHoles mid new (range.depth + 1) → AreAdded patterns old mid range
-      → AreAdded patterns old new range
-  added_holes old mid new upto u longer holes added =
+  pub added_holes : (old mid new : List PatternRange) (lowest upto : ℕ) (is_sparse : Bool) → upto < range.high
+      → range.depth < length (text patterns upto) → AreHoles mid new (range.depth + 1)
+      → AreAdded patterns old mid range lowest is_sparse upto → AreAdded patterns old new range lowest is_sparse upto
+  added_holes old mid new lowest upto is_sparse u longer holes added =
       let place : IsRangeOrHole patterns (hole (range.depth + 1)) = grind (arith, lit≤) in
+      let here : (at : ℕ) (kid : PatternRange) → slice_get new at ≡ Some kid
+      → ((at < length mid) × (slice_get mid at ≡ Some kid)) ⊎ (kid ≡ hole (range.depth + 1)) =
+      λ at kid e. elim (cases_lt at (length mid)) [
+        | inl in' ↦ inl (in', sym (holes.longer.same at in') ∙ e)
+        | inr g ↦ inr (holes.holes at kid g e)
+      ] in
       record {
         longer = IsLonger-trans old mid new added.longer holes.longer;
-        places = λ at kid b e. elim (cases_lt at (length mid)) [
-          | inl in' ↦ added.places at kid b (sym (holes.longer.same at in') ∙ e)
-          | inr g ↦ subst (IsRangeOrHole patterns) (sym (holes.holes at kid g e)) place
+        places = λ at kid b e. elim (here at kid e) [
+          | inl (l, h) ↦ added.places at kid b h
+          | inr h ↦ subst (IsRangeOrHole patterns) (sym h) place
         ];
-        deeper = grind (arith, cases_lt);
+        kids = record {
+          kids = λ at kid b l e ne. elim (here at kid e) [
+            | inl (l, h) ↦ added.kids.kids at kid b l h ne
+            | inr h ↦ absurd (ne (ap (λ (p : PatternRange). p.first_byte) h))
+          ];
+          placed = λ s at kid b l e ne. elim (here at kid e) [
+            | inl (l, h) ↦ added.kids.placed s at kid b l h ne
+            | inr h ↦ absurd (ne (ap (λ (p : PatternRange). p.first_byte) h))
+          ];
+          complete = λ i b l m. still_kid mid new (length old) (length mid) (length new) (next_of patterns range i)
+              holes.longer.same holes.longer.longer (added.kids.complete i b l m);
+        };
       }
 
   -- one child more
-  pub added_kid : (old mid : List PatternRange) (kid : PatternRange) (answer : ℕ) → IsLeast patterns (IsUpto patterns range) answer
-      → IsCut patterns range kid answer → AreAdded patterns old mid range → AreAdded patterns old (mid ++ kid ∷ []) range
-  added_kid old mid kid answer least cut added = record {
+  pub added_kid : (old mid : List PatternRange) (kid : PatternRange) (answer lowest : ℕ) (is_sparse : Bool)
+      → IsLeast patterns (IsUpto patterns range) answer → IsCut patterns range kid answer
+      → (is_sparse ≡ false → lowest + length mid ≡ kid.first_byte + length old)
+      → AreAdded patterns old mid range lowest is_sparse kid.low
+      → AreAdded patterns old (mid ++ kid ∷ []) range lowest is_sparse kid.high
+  added_kid old mid kid answer lowest is_sparse least cut stands added = record {
     longer = IsLonger-trans old mid (mid ++ kid ∷ []) added.longer (IsLonger-push mid kid);
     places = λ at one b e. elim (push_cases mid kid at one e) [
       | inl (_, h) ↦ added.places at one b h
       | inr (_, h) ↦ subst (IsRangeOrHole patterns) h (kid_is_place ready is least cut)
     ];
-    deeper = λ at one b e. elim (push_cases mid kid at one e) [
-      | inl (_, h) ↦ added.deeper at one b h
-      | inr (_, h) ↦ omega (arith, ap (λ (p : PatternRange). p.depth) h)
-    ];
+    kids = record {
+      kids = λ at one b l e ne. elim (push_cases mid kid at one e) [
+        | inl (l, h) ↦ added.kids.kids at one b l h ne
+        | inr (_, h) ↦ subst (IsKid patterns range) h (kid_is cut)
+      ];
+      placed = λ s at one b l e ne. elim (push_cases mid kid at one e) [
+        | inl (l, h) ↦ added.kids.placed s at one b l h ne
+        | inr (l, h) ↦ omega (arith, l, stands s, ap (λ (p : PatternRange). p.first_byte) h)
+      ];
+      complete = λ i b l m. elim (cases_lt i kid.low) [
+        | inl before ↦ still_kid mid (mid ++ kid ∷ []) (length old) (length mid) (length (mid ++ kid ∷ []))
+            (next_of patterns range i) (push_keeps mid kid) (omega (arith, length_push mid kid))
+            (added.kids.complete i b before m)
+        | inr g ↦ record {
+          at = length mid;
+          kid = kid;
+          from = added.longer.longer;
+          before = omega (arith, length_push mid kid);
+          here = push_last mid kid;
+          first_byte = cut.first_byte ∙ sym (cut.bytes i g l);
+        }
+      ];
+    };
   }
 
   -- the child that the code makes has all the patterns with its byte

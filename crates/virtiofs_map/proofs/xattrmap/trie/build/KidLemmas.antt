@@ -1,9 +1,9 @@
 -- The child of a range to which a byte leads: the patterns of the range that go on with the byte.
-use Rattle.std.proofs.Common.{◌≡◌, ◌≢◌, ℕ, ◌+◌, ◌-◌, ◌<◌, ◌≤◌, List, length, take, get_or, inl, inr, sym}
+use Rattle.std.proofs.Common.{◌≡◌, ◌≢◌, ℕ, zero, suc, ◌+◌, ◌-◌, ◌<◌, ◌≤◌, List, [], ◌∷◌, ◌++◌, ap, subst, refl, add-one, drop, length, take, get_or, inl, inr, sym}
 use Rattle.std.proofs.Common.{◌∙◌, arith, rules}
 use Rattle.std.proofs.lemmas.Bool.{cases_lt}
-use Rattle.std.proofs.lemmas.List.{take-take, take_more_same}
-use Rattle.virtiofs_map.specs.TrieBuildParts.{text, AreReady, IsLeast, IsInside, IsUpto, IsPatternRange, IsRangeOrHole}
+use Rattle.std.proofs.lemmas.List.{take-append-drop, take-take, take_more_same, drop-take}
+use Rattle.virtiofs_map.specs.TrieBuildParts.{text, AreReady, IsLeast, IsInside, IsUpto, IsPatternRange, IsRangeOrHole, IsKid, path_of_range}
 use Rattle.virtiofs_map.specs.declared.xattrmap.trie.build.PatternRange.{PatternRange}
 use Rattle.virtiofs_map.specs.declared.xattrmap.trie.patterns.Pattern.{Pattern}
 use Rattle.virtiofs_map.proofs.xattrmap.trie.build.AnswerLemmas.{IsLeast-same}
@@ -29,6 +29,32 @@ pub record IsCut (patterns : List Pattern) (range kid : PatternRange) (answer : 
   pub group : (i : ℕ) → range.low ≤ i → i < range.high
       → get_or (text patterns i) range.depth 0 ≡ get_or (text patterns kid.low) range.depth 0
       → (kid.low ≤ i) × (i < kid.high)
+
+pub kid_is : {patterns : List Pattern} {range kid : PatternRange} {answer : ℕ} → IsCut patterns range kid answer
+    → IsKid patterns range kid
+kid_is cut = search rules
+
+-- a front, the byte after it, and some bytes after that
+front_and_more : (d l : ℕ) (s : List ℕ) → d < length s
+    → take (d + 1 + l) s ≡ take d s ++ get_or s d 0 ∷ take l (drop (d + 1) s)
+front_and_more d l s b =
+    sym (take-append-drop d (take (d + 1 + l) s))
+    ∙ ap (λ t. t ++ drop d (take (d + 1 + l) s)) (take-take d (d + 1 + l) s (omega arith))
+    ∙ ap (λ t. take d s ++ t) rest where
+      rest : drop d (take (d + 1 + l) s) ≡ get_or s d 0 ∷ take l (drop (d + 1) s)
+      rest = subst (λ n. drop d (take n s) ≡ get_or s d 0 ∷ take l (drop (d + 1) s)) (omega arith)
+          (drop-take d (suc l) s ∙ go d s b ∙ ap (λ n. get_or s d 0 ∷ take l (drop n s)) (sym (add-one d))) where
+            go : (d : ℕ) (s : List ℕ) → d < length s → take (suc l) (drop d s) ≡ get_or s d 0 ∷ take l (drop (suc d) s)
+            go d [] b = absurd (omega arith)
+            go zero (x ∷ s) b = refl
+            go (suc d) (x ∷ s) b = go d s (omega arith)
+
+-- the path of a child
+pub kid_path : {patterns : List Pattern} {range kid : PatternRange} → IsPatternRange patterns range
+    → IsKid patterns range kid → kid.depth ≤ length (text patterns kid.low)
+    → path_of_range patterns kid
+    ≡ path_of_range patterns range ++ kid.first_byte ∷ take kid.length (drop (range.depth + 1) (text patterns kid.low))
+kid_path {patterns} {range} {kid} is of long = grind (arith, front_and_more)
 
 -- a front of a front
 front_of : (s t : List ℕ) (m n : ℕ) → m ≤ n → (w : List ℕ) → take n s ≡ take n t → take m s ≡ w → take m t ≡ w

@@ -1,10 +1,10 @@
 -- Patterns in order, and what those have in common that stand between two.
-use Rattle.std.proofs.Common.{◌≡◌, ◌≢◌, ℕ, zero, suc, ◌+◌, ◌<◌, ◌≤◌, List, length, take, get_or, Some, inl, inr, refl}
-use Rattle.std.proofs.Common.{sym, ap, subst, ◌∙◌, arith, add-one, All, slice_get, take-take, get_or-take, rules}
+use Rattle.std.proofs.Common.{◌≡◌, ◌≢◌, ℕ, zero, suc, ◌+◌, ◌<◌, ◌≤◌, List, length, take, get_or, inl, inr, refl}
+use Rattle.std.proofs.Common.{sym, ap, subst, ◌∙◌, arith, add-one, take-take, get_or-take, rules}
 use Rattle.std.proofs.lemmas.Bool.{cases_lt}
 use Rattle.std.proofs.lemmas.List.{take_more_same, get_or_past}
 use Rattle.std.proofs.lemmas.Option.{slice_get_cases, slice_get-get_or}
-use Rattle.virtiofs_map.specs.TrieBuildParts.{text, start_of, AreReady}
+use Rattle.virtiofs_map.specs.TrieBuildParts.{text, start_of, AreReady, IsReady}
 use Rattle.virtiofs_map.specs.declared.xattrmap.trie.patterns.Pattern.{Pattern}
 use Rattle.virtiofs_map.proofs.xattrmap.trie.build.PatternTextLemmas.{text-here, start_of-here}
 
@@ -21,19 +21,27 @@ same_byte one other m k l e = search (rules, get_or-take)
 -- ---- patterns
 
 module _ {most : ℕ} {patterns : List Pattern} (ready : AreReady most patterns) where
+  -- the pattern at a place
+  pub ready_at : (i : ℕ) → i < length patterns → (one : Pattern) × (text patterns i ≡ one.bytes.now)
+      × (start_of patterns i ≡ one.start) × IsReady most one
+  ready_at i l = elim (slice_get_cases patterns i).1 [
+    | inr (past, _) ↦ absurd (omega (arith, past))
+    | inl (one, _, here, _) ↦ (
+      one,
+      text-here patterns i one here,
+      start_of-here patterns i one here,
+      subst (IsReady most) (cc (slice_get-get_or patterns i one l)) (ready.each i one l),
+    )
+  ]
+
   -- no pattern holds a zero
   pub no_zero : (i k : ℕ) → i < length patterns → k < length (text patterns i) → get_or (text patterns i) k 0 ≢ 0
-  no_zero i k l m = elim (slice_get_cases patterns i).1 [
-    | inl (one, _, here, _) ↦
-        (let same = text-here patterns i one here in
-        subst (λ (s : List ℕ). k < length s → get_or s k 0 ≢ 0) (sym same) (λ n. full i one here l k n) m)
-    | inr (past, _) ↦ absurd (omega (arith, past))
-  ] where
-    full : (i : ℕ) (one : Pattern) → slice_get patterns i ≡ Some one → i < length patterns → (k : ℕ)
-        → k < length one.bytes.now → get_or one.bytes.now k 0 ≢ 0
-    full i one here l k n =
-        let read : get_or patterns i one ≡ one = cc (slice_get-get_or patterns i one l) in
-        subst (λ (p : Pattern). All (λ byte. byte ≢ 0) p.bytes.now) read (ready.each i one l).full k 0 n
+  no_zero i k l m =
+      let at = ready_at i l in
+      subst (λ (s : List ℕ). k < length s → get_or s k 0 ≢ 0) (sym at.1) (at.3.full k 0) m
+
+  pub small : (i k : ℕ) → i < length patterns → get_or (text patterns i) k 0 < 256
+  small i k l = let at = ready_at i l in subst (λ (s : List ℕ). get_or s k 0 < 256) (sym at.1) (at.3.small k)
 
   -- a pattern goes on where its byte is not zero
   pub goes_on : (i k : ℕ) → get_or (text patterns i) k 0 ≢ 0 → k < length (text patterns i)
@@ -76,11 +84,4 @@ module _ {most : ℕ} {patterns : List Pattern} (ready : AreReady most patterns)
 
   -- a pattern ends among the bytes
   pub ends : (i : ℕ) → i < length patterns → start_of patterns i + length (text patterns i) ≤ most
-  ends i l = elim (slice_get_cases patterns i).1 [
-    | inr (past, _) ↦ absurd (omega (arith, past))
-    | inl (one, _, here, _) ↦
-        (let a = text-here patterns i one here in
-        let read : get_or patterns i one ≡ one = cc (slice_get-get_or patterns i one l) in
-        let w = subst (λ (p : Pattern). p.start + length p.bytes.now ≤ most) read (ready.each i one l).within in
-        omega (arith, start_of-here patterns i one here, ap (λ (s : List ℕ). length s) a, w))
-  ]
+  ends i l = let at = ready_at i l in omega (arith, at.2, ap (λ (s : List ℕ). length s) at.1, at.3.within)

@@ -22,14 +22,14 @@ unfolding start_of
 start_of-here patterns i one e = ap (λ o. option_map_or (λ (p : Pattern). p.start) o 0) e
 
 -- the same of a pattern that the code reads
-pub text-read : (patterns : List Pattern) (i : ℕ) (d : Pattern) → i < length patterns
+pub text_read : (patterns : List Pattern) (i : ℕ) (d : Pattern) → i < length patterns
     → (get_or patterns i d).bytes.now ≡ text patterns i
-text-read patterns i d l = sym (text-here patterns i (get_or patterns i d) (slice_get-get_or patterns i d l))
+text_read patterns i d l = sym (text-here patterns i (get_or patterns i d) (slice_get-get_or patterns i d l))
 
-pub number-read : (patterns : List Pattern) (i : ℕ) (d : Pattern) → i < length patterns
+pub number_read : (patterns : List Pattern) (i : ℕ) (d : Pattern) → i < length patterns
     → (get_or patterns i d).answer ≡ number patterns i
-number-read patterns i d l = sym (number-here patterns i (get_or patterns i d) (slice_get-get_or patterns i d l))
+number_read patterns i d l = sym (number-here patterns i (get_or patterns i d) (slice_get-get_or patterns i d l))
 
-pub start_of-read : (patterns : List Pattern) (i : ℕ) (d : Pattern) → i < length patterns
+pub start_of_read : (patterns : List Pattern) (i : ℕ) (d : Pattern) → i < length patterns
     → (get_or patterns i d).start ≡ start_of patterns i
-start_of-read patterns i d l = sym (start_of-here patterns i (get_or patterns i d) (slice_get-get_or patterns i d l))
+start_of_read patterns i d l = sym (start_of-here patterns i (get_or patterns i d) (slice_get-get_or patterns i d l))

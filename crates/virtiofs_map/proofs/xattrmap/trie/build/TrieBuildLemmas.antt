@@ -1,10 +1,11 @@
 -- The node of a range, and the places of its children.
-use Rattle.std.proofs.Common.{◌≡◌, ◌≢◌, ◌⊎◌, ℕ, ◌<◌, ◌≤◌, List, Some, length, get_or, inl, inr, refl, sym}
-use Rattle.std.proofs.Common.{◌∙◌, arith, slice_get, take_all, rules}
+use Rattle.std.proofs.Common.{◌≡◌, ◌≢◌, ◌⊎◌, ℕ, ◌+◌, ◌-◌, ◌<◌, ◌≤◌, Bool, false, List, Some, length, get_or, inl, inr, refl}
+use Rattle.std.proofs.Common.{arith, slice_get, take_all, rules}
 use Rattle.std.proofs.lemmas.Bool.{cases_lt}
-use Rattle.std.proofs.lemmas.Option.{slice_get_read, slice_get_within}
+use Rattle.std.proofs.lemmas.Option.{slice_get_read}
 use Rattle.virtiofs_map.specs.TrieBuildParts.{text, AreReady, IsLeast, IsLeastOf, IsInside, IsUpto, IsPatternRange}
-use Rattle.virtiofs_map.specs.TrieBuildParts.{IsRangeOrHole, AreRangesOrHoles, AreAdded, AreDeep, IsBuilt, IsExpanded}
+use Rattle.virtiofs_map.specs.TrieBuildParts.{IsRangeOrHole, AreRangesOrHoles, AreAdded, AreKids, IsBuilt}
+use Rattle.virtiofs_map.specs.TrieBuildParts.{IsExpanded, childless_of, start_of}
 use Rattle.virtiofs_map.specs.declared.xattrmap.trie.node.Node.{Node}
 use Rattle.virtiofs_map.specs.declared.xattrmap.trie.build.PatternRange.{PatternRange}
 use Rattle.virtiofs_map.specs.declared.xattrmap.trie.patterns.Pattern.{Pattern}
@@ -66,37 +67,52 @@ least_ended most patterns ready range from answer is l u ended other least =
             ])
       ]
 
-pub none_deeper : (ranges : List PatternRange) (depth : ℕ) → AreDeep ranges (length ranges) depth
-none_deeper ranges depth = search (rules, slice_get_within)
-
 -- a range that has no children
 pub expanded_here : (patterns : List Pattern) (ranges : List PatternRange) (range : PatternRange) (node : Node)
-    → AreRangesOrHoles patterns ranges → IsBuilt patterns range node → IsExpanded patterns ranges ranges range node
-expanded_here patterns ranges range node places built = search (rules, IsLonger-refl, none_deeper)
+    → AreRangesOrHoles patterns ranges → IsBuilt patterns ranges range node
+    → IsExpanded patterns ranges ranges range node
+expanded_here patterns ranges range node places built = search (rules, IsLonger-refl)
 
 -- a range with children
 pub expanded_on : (patterns : List Pattern) (old new : List PatternRange) (range : PatternRange) (node : Node)
-    → AreRangesOrHoles patterns old → AreAdded patterns old new range → IsBuilt patterns range node
+    (lowest : ℕ) (is_sparse : Bool) → AreRangesOrHoles patterns old
+    → AreAdded patterns old new range lowest is_sparse range.high → IsBuilt patterns new range node
     → IsExpanded patterns old new range node
-expanded_on patterns old new range node places added built = record {
-  longer = added.longer;
-  places = record {
-    each = λ k one e. elim (cases_lt k (length old)) [
-      | inl b ↦ places.each k one (sym (added.longer.same k b) ∙ e)
-      | inr g ↦ added.places k one g e
-    ];
-  };
-  built = built;
-  deeper = record { deep = λ k one b e. omega (arith, added.deeper k one b e) };
-}
+expanded_on patterns old new range node lowest is_sparse places added built = search (rules, cases_lt)
+
+-- a range has no children whose patterns have all ended
+no_kids : (patterns : List Pattern) (ranges : List PatternRange) (range : PatternRange) (base : ℕ)
+    → ((i : ℕ) → range.low ≤ i → i < range.high → length (text patterns i) ≡ range.depth)
+    → AreKids patterns ranges range base (base + 0) 1 false range.high
+no_kids patterns ranges range base ended = search rules
 
 -- the node of a range with no pattern
-pub built_bare : (patterns : List Pattern) (range : PatternRange) (node : Node) → range.low ≡ range.high
-    → node.answer ≡ range.answer → IsBuilt patterns range node
-built_bare patterns range node bare answer =
-    grind (arith, IsLeast-same, upto_from_inside, cases_lt, inside_from_upto, in_range)
+pub built_bare : (patterns : List Pattern) (ranges : List PatternRange) (range : PatternRange) → range.low ≡ range.high
+    → IsRangeOrHole patterns range → IsBuilt patterns ranges range (childless_of range (length ranges) range.answer 0)
+built_bare patterns ranges range bare place =
+    grind (arith, no_kids, IsLeast-same, upto_from_inside, cases_lt, inside_from_upto, in_range)
 
--- and of a range with some
-pub built_some : (patterns : List Pattern) (range : PatternRange) (node : Node) (answer : ℕ) → range.low < range.high
-    → IsLeast patterns (IsUpto patterns range) answer → node.answer ≡ answer → IsBuilt patterns range node
-built_some patterns range node answer some least is = search rules
+-- that of a range all of whose patterns have ended
+pub built_ended : (patterns : List Pattern) (ranges : List PatternRange) (range : PatternRange) (answer label : ℕ)
+    → range.low < range.high → IsLeast patterns (IsUpto patterns range) answer
+    → label + range.length ≡ start_of patterns range.low + range.depth
+    → ((i : ℕ) → range.low ≤ i → i < range.high → length (text patterns i) ≡ range.depth)
+    → IsBuilt patterns ranges range (childless_of range (length ranges) answer label)
+built_ended patterns ranges range answer label some least stands ended = search (rules, no_kids)
+
+-- and that of one with children
+pub built_on : (patterns : List Pattern) (old new : List PatternRange) (range : PatternRange)
+    (answer label lowest : ℕ) (is_sparse : Bool) → range.low < range.high → IsLeast patterns (IsUpto patterns range) answer
+    → label + range.length ≡ start_of patterns range.low + range.depth → 1 ≤ lowest
+    → lowest + length new ≤ 256 + length old → AreAdded patterns old new range lowest is_sparse range.high
+    → IsBuilt patterns new range (record {
+      answer = answer;
+      label = label;
+      length = range.length;
+      base = length old;
+      width = length new - length old;
+      low_byte = lowest;
+      first_byte = range.first_byte;
+      is_sparse = is_sparse;
+    })
+built_on patterns old new range answer label lowest is_sparse some least stands low few added = search rules

@@ -55,13 +55,14 @@ module _ (image : List ℕ) (first labels : ℕ) (nodes : List Node) (has : HasR
       }
 
   -- the row that stands so many places behind the first child of a node
-  pub child_there : (parent : Node) (bytes : List ℕ) (start behind place : ℕ) → IsReadable nodes bytes parent
-      → behind < parent.width → start ≡ first + 3 * parent.base → place ≡ 8 * (start + 3 * behind)
+  pub child_there : (parent : Node) (bytes : List ℕ) (start behind place : ℕ) (row : List ℕ)
+      → IsReadable nodes bytes parent → behind < parent.width → start ≡ first + 3 * parent.base
+      → place ≡ 8 * (start + 3 * behind) → row ≡ take 24 (drop place image)
       → (child : Node) × (slice_get nodes (parent.base + behind) ≡ Some child) × (place + 24 ≤ length image)
-      × IsRow first labels child (take 24 (drop place image))
-  child_there parent bytes start behind place readable below is_start is_place =
+      × IsRow first labels child row
+  child_there parent bytes start behind place row readable below is_start is_place is_row =
       let there = there_is_one nodes (parent.base + behind) (omega arith) in
-      let row = row_there (parent.base + behind) there.0 there.1 in
+      let stands = row_there (parent.base + behind) there.0 there.1 in
       let same : 8 * first + (parent.base + behind) * 24 ≡ place = omega arith in (grind arith)
 
 -- the label of a node stands in the image at its place there

@@ -3,18 +3,18 @@ use Rattle.virtiofs_id_audit.specs.IdAudit.{GoesInto, ReachedBy, AreIdsApart}
 use Rattle.virtiofs_map_c.proofs.MakesLemmas.{refused_complete, refused_faulty}
 use Rattle.virtiofs_map_c.specs.IdsFound.{HasPairFault, IsMeetingTold}
 use Rattle.virtiofs_map_c.specs.Makes.{IsArrayTold}
-use Rattle.virtiofs_map_c.proofs.IdsFoundLemmas.{tells_audit, tells_yes, of_arrays, pair_no_fault, pair_one_fault}
+use Rattle.virtiofs_map_c.proofs.IdsFoundLemmas.{tells_audit, tells_yes, of_array, pair_no_fault, pair_one_fault}
 use Rattle.virtiofs_map_c.proofs.ids.audits.virtiofs_map_ids_apart.Goals as goal
 
 pub returns-in-Ok-clause-answer : goal.returns-in-Ok-clause-answer
 returns-in-Ok-clause-answer c = λ list other are other_are _.
     tells_audit (GoesInto list (ReachedBy other)) (IsMeetingTold list other) c.in-Ok.least _ _ _ c.write.ensures
-    (of_arrays _ _ _ c.in-Ok.ensures.decided list other are other_are).0
+    (of_array _ _ (of_array _ _ c.in-Ok.ensures.decided list are) other other_are).0
 
 pub returns-in-Ok-clause-apart : goal.returns-in-Ok-clause-apart
 returns-in-Ok-clause-apart c = λ list other are other_are _.
     tells_yes (AreIdsApart list other) c.in-Ok.least _ _ _ c.write.ensures
-    (of_arrays _ _ _ c.in-Ok.ensures.decided list other are other_are).1
+    (of_array _ _ (of_array _ _ c.in-Ok.ensures.decided list are) other other_are).1
 
 pub returns-in-Ok-clause-faulty : goal.returns-in-Ok-clause-faulty
 returns-in-Ok-clause-faulty c = λ wrong has.

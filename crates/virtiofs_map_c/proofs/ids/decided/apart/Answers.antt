@@ -5,12 +5,14 @@ use Rattle.virtiofs_map_c.proofs.ids.decided.apart.Goals as goal
 pub returns-in-Yes-clause-decided : goal.returns-in-Yes-clause-decided
 returns-in-Yes-clause-decided c = record {
   list = _;
-  other = _;
   are = c.in_ok-map.ensures.map.0;
-  other_are = c.in-Ok.ensures.map.0;
   accepted = c.in_ok-map.ensures.map.1;
-  other_accepted = c.in-Ok.ensures.map.1;
-  holds = (search rules, (λ _. c.in_ok-audit.ensures.apart.0 c.in-Yes.is, λ _. refl));
+  holds = record {
+    list = _;
+    are = c.in-Ok.ensures.map.0;
+    accepted = c.in-Ok.ensures.map.1;
+    holds = (search rules, (λ _. c.in_ok-audit.ensures.apart.0 c.in-Yes.is, λ _. refl));
+  };
 }
 
 pub behind-requires : goal.behind-requires

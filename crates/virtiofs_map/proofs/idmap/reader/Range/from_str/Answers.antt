@@ -1,12 +1,7 @@
 use Rattle.std.proofs.Common.{refl, arith}
 use Rattle.std.proofs.lemmas.Result.{err_from_is_err_and}
-use Rattle.virtiofs_map.proofs.NamespaceLemmas.{SaysNamespace-parts, HasOtherField-parts}
+use Rattle.virtiofs_map.proofs.NamespaceLemmas.{HasOtherField-parts}
 use Rattle.virtiofs_map.proofs.idmap.reader.Range.from_str.Goals as goal
-
-pub returns-in_err-delimiter-clause-refused : goal.returns-in_err-delimiter-clause-refused
-returns-in_err-delimiter-clause-refused c =
-    let p = err_from_is_err_and c.from_residual.result c.from_residual.ensures.1 in
-    rw (p.1, p.2) c.in_err-delimiter.ensures.refused
 
 pub returns-in_err-inside-clause-refused : goal.returns-in_err-inside-clause-refused
 returns-in_err-inside-clause-refused c =
@@ -29,10 +24,3 @@ returns-in_err-count-clause-refused c =
     let found = c.in_ok-delimiter.ensures.found in
     let three = c.in-Some.ensures.three in
     rw (p.1, p.2) (HasOtherField-parts _ _ _ _ _ _ _ found three (2, omega arith, refl) c.in_err-count.ensures.refused)
-
-pub returns-clause-read : goal.returns-clause-read
-returns-clause-read c =
-    let found = c.in_ok-delimiter.ensures.found in
-    let three = c.in-Some.ensures.three in
-    SaysNamespace-parts _ _ _ _ _ _ _ _ _ found three c.in_ok-inside.ensures.read c.in_ok-outside.ensures.read
-    c.in_ok-count.ensures.read

@@ -7,7 +7,7 @@ abbrev pub invariant-loop-low : goal.invariant-loop-low
 invariant-loop-low l = record {
   from : l.from ≤ l.low;
   upto : l.low ≤ l.range.high;
-  groups : HaveFirstBytes l.patterns l.range l.lowest l.low (λ first_bytes upto. l.count ≡ length first_bytes);
+  groups : HaveFirstBytes l.patterns l.range l.from l.lowest l.low (λ upto bytes. l.count ≡ length bytes);
 }
 
 -- what is left

@@ -1,15 +1,19 @@
-use Rattle.std.proofs.Common.{◌≡◌, [], ◌∷◌, ◌++◌, length, refl, sym, ap, subst, ◌∙◌, arith}
-use Rattle.std.proofs.Math.Facts.{Fits-lt-pow}
-use Rattle.virtiofs_map.specs.TrieBuildParts.{AreExact, AreRangesOrHoles}
-use Rattle.virtiofs_map.specs.TrieParts.{IsTrieOf}
-use Rattle.virtiofs_map.proofs.xattrmap.trie.AppendedRowLemmas.{rows_none}
-use Rattle.virtiofs_map.proofs.xattrmap.trie.NodesOfLemmas.{nodes_made}
-use Rattle.virtiofs_map.proofs.xattrmap.trie.build.LevelLemmas.{levels_fall, root, root_built, root_places}
-use Rattle.virtiofs_map.proofs.xattrmap.trie.build.BuiltTrieLemmas.{exact_all, exact_root, pattern_bytes}
+use Rattle.std.proofs.Common.{◌≡◌, [], ◌∷◌, ◌++◌, length, refl, sym, ap, subst, ◌∙◌, arith, sum_by, take_all}
+use Rattle.std.proofs.lemmas.List.{length_push}
+use Rattle.std.proofs.lemmas.List.Sums.{sum_by-take-le}
+use Rattle.virtiofs_map.specs.PatternTrie.{nodes_in_all}
+use Rattle.virtiofs_map.specs.TrieBuildParts.{AreBuilt, AreRangesOrHoles, below, texts_of}
+use Rattle.virtiofs_map.specs.NodeParts.{patterns_on}
+use Rattle.virtiofs_map.proofs.xattrmap.trie.AppendedRowLemmas.{rows_more, rows_none}
+use Rattle.virtiofs_map.proofs.xattrmap.trie.SameTextsLemmas.{nodes_same}
+use Rattle.virtiofs_map.proofs.xattrmap.trie.build.BuiltSoFarLemmas.{built_more, root, root_built, root_places, root_total}
+use Rattle.virtiofs_map.proofs.xattrmap.trie.build.BuiltSoFarLemmas.{total_more}
+use Rattle.virtiofs_map.proofs.xattrmap.trie.build.TrieBuildLemmas.{place_here}
+use Rattle.virtiofs_map.proofs.xattrmap.trie.build.BuiltTrieLemmas.{are_bounded, is_trie}
 use Rattle.virtiofs_map.proofs.xattrmap.trie.build.build_trie.Goals as goal
 
-pub loop-from-init : goal.loop-from-init
-loop-from-init g c =
+pub loop-at-init : goal.loop-at-init
+loop-at-init g c =
     let patterns = c.args.patterns.now in
     let items : c.push.new.self.items ≡ root (length patterns) ∷ [] = c.in_ok-push.ensures.items
     ∙ ap (λ ranges. ranges ++ root (length patterns) ∷ []) c.clear-2.ensures.items in
@@ -19,40 +23,66 @@ loop-from-init g c =
       made = record {
         nodes = [];
         counted = refl;
-        built = root_built patterns c.push.new.self.items;
-        exact = subst (λ ranges. AreExact patterns ranges []) (sym items) (exact_root patterns);
+        built = subst (λ ranges. AreBuilt patterns ranges []) (sym items) (root_built patterns);
+        total = rw items (root_total patterns);
         rows_of = rows_none _ c.args.first c.clear.ensures.items;
       };
     }
 
-pub loop-from-smaller : goal.loop-from-smaller
-loop-from-smaller g c =
-    levels_fall (length c.args.bytes.now) c.args.patterns.now c.loop-from.ranges.items c.build_level.new.ranges.items
-    c.loop-from.from _ c.requires c.loop-from.invariant.places
-    (omega (arith, c.loop-from-test.true)) c.in_ok-from.ensures.deeper
+pub loop-at-smaller : goal.loop-at-smaller
+loop-at-smaller g c =
+    let ranges = c.loop-at.ranges.items in
+    omega (
+      arith,
+      c.loop-at-test.true,
+      c.loop-at.invariant.made.total,
+      sum_by-take-le (below c.args.patterns.now) ranges c.loop-at.at,
+    )
 
-pub loop-from-preserved : goal.loop-from-preserved
-loop-from-preserved g c = record {
-  places = c.in_ok-from.ensures.places;
-  within = c.in_ok-from.ensures.more;
-  made = c.in_ok-from.ensures.made c.loop-from.invariant.made;
-}
+pub loop-at-preserved : goal.loop-at-preserved
+loop-at-preserved g c =
+    let inv = c.loop-at.invariant in
+    let made = inv.made in
+    let expanded = c.in_ok-node.ensures.expanded in
+    let range = c.index-range.result.now in
+    let patterns = c.args.patterns.now in
+    let old = c.loop-at.ranges.items in
+    let new = c.node_of.new.ranges.items in
+    let node = c.in_ok-node.node in
+    let here = place_here old c.loop-at.at range (omega (arith, c.loop-at-test.true)) c.index-range.ensures in
+    record {
+      places = expanded.places;
+      within = omega (arith, c.loop-at-test.true, expanded.longer.longer);
+      made = record {
+        nodes = made.nodes ++ node ∷ [];
+        counted = omega (arith, made.counted, length_push made.nodes node);
+        built = built_more patterns old new made.nodes range node c.loop-at.at made.counted here made.built expanded;
+        total = total_more patterns old new range c.loop-at.at (nodes_in_all (texts_of patterns)) here expanded.longer
+            c.in_ok-node.ensures.counted made.total;
+        rows_of =
+            rows_more c.loop-at.rows.items c.push_row.new.rows.items c.args.first made.nodes node
+            c.placed.result made.rows_of c.placed.ensures.placed c.placed.ensures.bytes.0 c.in_ok-push_row.ensures.row
+            c.in_ok-push_row.ensures.long;
+      };
+    }
 
 pub returns : goal.returns
-returns g c =
-    let made = c.loop-from.invariant.made in
+returns g c = λ side rules of_rules few.
+    (let made = c.loop-at.invariant.made in
     let patterns = c.args.patterns.now in
     let bytes = c.args.bytes.now in
+    let ranges = c.loop-at.ranges.items in
+    let places = c.loop-at.invariant.places in
+    let full : length made.nodes ≡ length ranges =
+    omega (arith, c.loop-at-test.false, made.counted, made.built.counted) in
+    let whole = ap (sum_by (below patterns)) (take_all c.loop-at.at ranges (omega (arith, c.loop-at-test.false))) in
     record {
       nodes = made.nodes;
-      trie = λ side rules of_rules few.
-          (let full : length made.nodes ≡ length c.loop-from.ranges.items =
-          (omega (arith, c.loop-from-test.false, made.counted, made.built.counted)) in
-          subst (IsTrieOf side rules bytes patterns)
-          (sym (exact_all side rules bytes patterns of_rules few c.requires c.loop-from.ranges.items made.nodes
-          c.loop-from.invariant.places made.built full made.exact))
-          (nodes_made side rules patterns bytes of_rules
-          (pattern_bytes side rules bytes patterns of_rules c.requires
-          (λ k. Fits-lt-pow (c.type_inv.bytes k))) few));
+      trie = record {
+        trie = is_trie side rules bytes patterns of_rules few c.requires ranges made.nodes places made.built full;
+        bounded = are_bounded side rules bytes patterns of_rules few c.requires ranges made.nodes places made.built full;
+        counted = omega (arith, full, made.total, whole, nodes_same (patterns_on side rules) (texts_of patterns) of_rules.texts);
+        few = few;
+      };
       rows_of = made.rows_of;
-    }
+    })

@@ -1,5 +1,5 @@
-use Rattle.std.proofs.Common.{◌+◌, ◌-◌, ◌%◌, ◌<◌, ℕ, List, refl, sym, ap, subst, ◌∙◌, arith}
-use Rattle.virtiofs_map.specs.NodeParts.{IsRow, placed}
+use Rattle.std.proofs.Common.{◌+◌, ◌-◌, ◌%◌, ◌<◌, refl, sym, ap, ◌∙◌, arith}
+use Rattle.virtiofs_map.specs.NodeParts.{placed}
 use Rattle.virtiofs_map.proofs.xattrmap.trie.reading.ChildStepLemmas.{child_there, in_slot, other_slot, past_slots}
 use Rattle.virtiofs_map.proofs.xattrmap.trie.reading.Rows.dense_child.Goals as goal
 
@@ -16,16 +16,14 @@ returns-then-first_byte_of-byte c = λ first labels nodes bytes node has readabl
     let width = c.width_of.ensures (placed first labels node) row in
     let below : ((c.args.byte + (256 - c.low_byte_of.result)) % 256) < node.width = omega (arith, width, c.if-behind-width_of.false) in
     let there =
-    child_there c.args.self.image.now first labels nodes has node bytes c.base_of.result ((c.args.byte + (256 - c.low_byte_of.result)) % 256) _ readable below
-    (c.base_of.ensures.dense (placed first labels node) row flat) refl in
-    let is : IsRow first labels there.0 c.in_ok-child.child.now =
-    subst (λ (l : List ℕ). IsRow first labels there.0 l) (sym c.in_ok-child.ensures) there.3 in
+    child_there c.args.self.image.now first labels nodes has node bytes c.base_of.result ((c.args.byte + (256 - c.low_byte_of.result)) % 256) _ _ readable below
+    (c.base_of.ensures.dense (placed first labels node) row flat) refl c.in_ok-child.ensures in
     record {
       child = there.0;
-      is = is;
+      is = there.3;
       to = in_slot nodes bytes node c.args.byte readable ((c.args.byte + (256 - c.low_byte_of.result)) % 256) flat (omega arith)
           (ap (λ n. (c.args.byte + (256 - n)) % 256) low) there.0 below there.1
-          (sym (c.first_byte_of.ensures (placed first labels there.0) is) ∙ c.if-first_byte_of-byte.true);
+          (sym (c.first_byte_of.ensures (placed first labels there.0) there.3) ∙ c.if-first_byte_of-byte.true);
     })
 
 pub returns-else-first_byte_of-byte : goal.returns-else-first_byte_of-byte
@@ -34,10 +32,8 @@ returns-else-first_byte_of-byte c = λ first labels nodes bytes node has readabl
     let width = c.width_of.ensures (placed first labels node) row in
     let below : ((c.args.byte + (256 - c.low_byte_of.result)) % 256) < node.width = omega (arith, width, c.if-behind-width_of.false) in
     let there =
-    child_there c.args.self.image.now first labels nodes has node bytes c.base_of.result ((c.args.byte + (256 - c.low_byte_of.result)) % 256) _ readable below
-    (c.base_of.ensures.dense (placed first labels node) row flat) refl in
-    let is : IsRow first labels there.0 c.in_ok-child.child.now =
-    subst (λ (l : List ℕ). IsRow first labels there.0 l) (sym c.in_ok-child.ensures) there.3 in
+    child_there c.args.self.image.now first labels nodes has node bytes c.base_of.result ((c.args.byte + (256 - c.low_byte_of.result)) % 256) _ _ readable below
+    (c.base_of.ensures.dense (placed first labels node) row flat) refl c.in_ok-child.ensures in
     other_slot nodes bytes node c.args.byte readable ((c.args.byte + (256 - c.low_byte_of.result)) % 256) flat (omega arith)
     (ap (λ n. (c.args.byte + (256 - n)) % 256) low) there.0 there.1
-    (λ same. c.if-first_byte_of-byte.false (c.first_byte_of.ensures (placed first labels there.0) is ∙ same)))
+    (λ same. c.if-first_byte_of-byte.false (c.first_byte_of.ensures (placed first labels there.0) there.3 ∙ same)))

@@ -1,6 +1,6 @@
-use Rattle.std.proofs.Common.{◌≡◌, ◌+◌, ◌%◌, ◌<◌, inl, inr, ℕ, List, Some, refl, sym, ap, subst, ◌∙◌, arith, slice_get}
+use Rattle.std.proofs.Common.{◌≡◌, ◌+◌, ◌%◌, ◌<◌, inl, inr, Some, refl, sym, ap, ◌∙◌, arith, slice_get}
 use Rattle.std.proofs.lemmas.Bool.{cases_lt}
-use Rattle.virtiofs_map.specs.NodeParts.{IsRow, placed}
+use Rattle.virtiofs_map.specs.NodeParts.{placed}
 use Rattle.virtiofs_map.specs.declared.xattrmap.trie.node.Node.{Node}
 use Rattle.virtiofs_map.proofs.xattrmap.trie.reading.ChildStepLemmas.{child_there, nowhere}
 use Rattle.virtiofs_map.proofs.xattrmap.trie.reading.Rows.sparse_child.Goals as goal
@@ -10,21 +10,19 @@ returns-then-first_byte_of-byte c = λ first labels nodes bytes node has readabl
     (let width = c.width_of-width.ensures (placed first labels node) row in
     let below : c.loop-behind.behind < node.width = omega (arith, width, c.loop-behind-test.true) in
     let there =
-    child_there c.args.self.image.now first labels nodes has node bytes (c.base_of.result % 140737488355328) c.loop-behind.behind _
+    child_there c.args.self.image.now first labels nodes has node bytes (c.base_of.result % 140737488355328) c.loop-behind.behind _ _
     readable below
-    (c.base_of.ensures.sparse (placed first labels node) row) refl in
-    let is : IsRow first labels there.0 c.in_ok-child.child.now =
-    subst (λ (l : List ℕ). IsRow first labels there.0 l) (sym c.in_ok-child.ensures) there.3 in
+    (c.base_of.ensures.sparse (placed first labels node) row) refl c.in_ok-child.ensures in
     record {
       child = there.0;
-      is = is;
+      is = there.3;
       to = record {
         place = node.base + c.loop-behind.behind;
         leads = record {
           from = omega arith;
           below = omega (arith, below);
           here = there.1;
-          first_byte = sym (c.first_byte_of.ensures (placed first labels there.0) is) ∙ c.if-first_byte_of-byte.true;
+          first_byte = sym (c.first_byte_of.ensures (placed first labels there.0) there.3) ∙ c.if-first_byte_of-byte.true;
           real = c.if-byte-eq0.false;
         };
       };
@@ -35,11 +33,9 @@ loop-behind-preserved c = λ first labels nodes bytes node has readable row k ch
     (let width = c.width_of-width.ensures (placed first labels node) row in
     let below : c.loop-behind.behind < node.width = omega (arith, width, c.loop-behind-test.true) in
     let there =
-    child_there c.args.self.image.now first labels nodes has node bytes (c.base_of.result % 140737488355328) c.loop-behind.behind _
+    child_there c.args.self.image.now first labels nodes has node bytes (c.base_of.result % 140737488355328) c.loop-behind.behind _ _
     readable below
-    (c.base_of.ensures.sparse (placed first labels node) row) refl in
-    let is : IsRow first labels there.0 c.in_ok-child.child.now =
-    subst (λ (l : List ℕ). IsRow first labels there.0 l) (sym c.in_ok-child.ensures) there.3 in
+    (c.base_of.ensures.sparse (placed first labels node) row) refl c.in_ok-child.ensures in
     elim (cases_lt k c.loop-behind.behind) [
       | inl low ↦ c.loop-behind.invariant first labels nodes bytes node has readable row k child low here first_byte
       | inr high ↦
@@ -47,7 +43,7 @@ loop-behind-preserved c = λ first labels nodes bytes node has readable row k ch
           let same : Some there.0 ≡ Some child = sym there.1 ∙ sym (ap (slice_get nodes) last) ∙ here in
           let first_bytes : there.0.first_byte ≡ child.first_byte =
           ap (λ (b : Node). b.first_byte) (let e : there.0 ≡ child = cc in e) in
-          absurd (c.if-first_byte_of-byte.false (c.first_byte_of.ensures (placed first labels there.0) is ∙ first_bytes ∙ first_byte)))
+          absurd (c.if-first_byte_of-byte.false (c.first_byte_of.ensures (placed first labels there.0) there.3 ∙ first_bytes ∙ first_byte)))
     ])
 
 pub returns : goal.returns

@@ -1,1 +1,0 @@
--- What specifications and ranges make of one id.

@@ -1,3 +1,0 @@
-mod FrontLemmas
-mod PiecesLemmas
-mod WrittenLemmas

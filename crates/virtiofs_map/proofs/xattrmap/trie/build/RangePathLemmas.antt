@@ -1,0 +1,98 @@
+-- The patterns that begin with the path of a range, and those that go on after it.
+use Rattle.std.proofs.Common.{◌≡◌, ℕ, zero, suc, ◌+◌, ◌<◌, ◌≤◌, Bool, true, ◌||◌, List, [], ◌∷◌, ◌++◌, length, take, drop}
+use Rattle.std.proofs.Common.{get_or, sym, ap, subst, ◌∙◌, arith, append_assoc, length-append, inl, inr, true≢false}
+use Rattle.std.specs.List.{list_any}
+use Rattle.std.proofs.lemmas.Bool.{cases_Bool, or_right}
+use Rattle.std.proofs.lemmas.List.{take-append-drop, take_at, length-take, length-take-le, drop_more}
+use Rattle.std.proofs.Math.Seq.{get_or-append_seam}
+use Rattle.virtiofs_map.specs.TrieBuildParts.{text, AreReady, IsPatternRange, path_of_range, texts_of}
+use Rattle.virtiofs_map.specs.Names.{begins}
+use Rattle.virtiofs_map.specs.PatternTrie.{leads}
+use Rattle.virtiofs_map.specs.declared.xattrmap.trie.build.PatternRange.{PatternRange}
+use Rattle.virtiofs_map.specs.declared.xattrmap.trie.patterns.Pattern.{Pattern}
+use Rattle.virtiofs_map.proofs.BeginsLemmas.{begins_split, begins_from, begins_trans, begins-append}
+
+-- ---- a test of texts
+
+-- some pattern's bytes pass the test
+pub record IsPassed (patterns : List Pattern) (p : List ℕ → Bool) : Type 0 where
+  pub at : ℕ
+  pub within : at < length patterns
+  pub passes : p (text patterns at) ≡ true
+
+pub passed : (patterns : List Pattern) (p : List ℕ → Bool) → list_any p (texts_of patterns) ≡ true → IsPassed patterns p
+unfolding text
+passed [] p some = absurd (true≢false (sym some))
+passed (one ∷ patterns) p some = elim (cases_Bool (p one.bytes.now)) [
+  | inl e ↦ record { at = 0; within = omega arith; passes = e }
+  | inr e ↦
+      (let later = passed patterns p (sym (ap (λ b. b || list_any p (texts_of patterns)) e) ∙ some) in
+      record { at = suc later.at; within = let w = later.within in omega arith; passes = later.passes })
+]
+
+pub passed_by : (patterns : List Pattern) (p : List ℕ → Bool) (at : ℕ) → at < length patterns
+    → p (text patterns at) ≡ true → list_any p (texts_of patterns) ≡ true
+unfolding text
+passed_by [] p at within passes = absurd (omega arith)
+passed_by (one ∷ patterns) p zero within passes = ap (λ b. b || list_any p (texts_of patterns)) passes
+passed_by (one ∷ patterns) p (suc at) within passes =
+    or_right (p one.bytes.now) (list_any p (texts_of patterns)) (passed_by patterns p at (omega arith) passes)
+
+-- ---- fronts of patterns
+
+-- a text that begins with a front and a byte has that byte there
+pub byte_there : (front text : List ℕ) (byte n : ℕ) → length front ≡ n → begins (front ++ byte ∷ []) text ≡ true
+    → (n < length text) × (get_or text n 0 ≡ byte)
+byte_there front text byte n size starts =
+    let rest = drop (length (front ++ byte ∷ [])) text in
+    let split : text ≡ front ++ (byte ∷ rest) = begins_split (front ++ byte ∷ []) text starts
+    ∙ append_assoc front (byte ∷ []) rest in
+    let long = ap length split ∙ length-append front (byte ∷ rest) in (
+      omega (arith, long),
+      ap (λ (s : List ℕ). get_or s n 0) split
+          ∙ subst (λ m. get_or (front ++ (byte ∷ rest)) m 0 ≡ byte) size (get_or-append_seam front byte rest 0),
+    )
+
+-- a front, the byte after it, and what follows
+split_at : (d : ℕ) (s : List ℕ) → d < length s → s ≡ take d s ++ get_or s d 0 ∷ drop (d + 1) s
+split_at d s l = sym (take-append-drop d s) ∙ ap (λ t. take d s ++ t) (drop_more s d 0 l)
+
+module _ {most : ℕ} {patterns : List Pattern} (ready : AreReady most patterns) {range : PatternRange}
+    (is : IsPatternRange patterns range) where
+  pub path_size : length (path_of_range patterns range) ≡ range.depth
+  path_size = grind (arith, length-take, length-take-le)
+
+  -- the byte with which a pattern of the range goes on leads on
+  pub in_leads : (i byte : ℕ) → range.low ≤ i → i < range.high → range.depth < length (text patterns i)
+      → get_or (text patterns i) range.depth 0 ≡ byte
+      → leads (texts_of patterns) (path_of_range patterns range ++ byte ∷ []) ≡ true
+  unfolding leads
+  in_leads i byte from upto longer next =
+      let rest = drop (range.depth + 1) (text patterns i) in
+      let whole : text patterns i ≡ (path_of_range patterns range ++ byte ∷ []) ++ rest =
+      grind (arith, split_at, append_assoc) in
+      passed_by patterns (begins (path_of_range patterns range ++ byte ∷ [])) i (omega (arith, is.within))
+      (begins_from (path_of_range patterns range ++ byte ∷ []) (text patterns i) rest whole)
+
+  -- and a byte that leads on is the one with which a pattern of the range goes on
+  pub goes_in : (i byte : ℕ) → i < length patterns
+      → begins (path_of_range patterns range ++ byte ∷ []) (text patterns i) ≡ true
+      → (range.low ≤ i) × (i < range.high) × (range.depth < length (text patterns i))
+      × (get_or (text patterns i) range.depth 0 ≡ byte)
+  goes_in i byte within b =
+      let path = path_of_range patterns range in
+      let starts = begins_trans path (path ++ byte ∷ []) (text patterns i) (begins-append path (byte ∷ [])) b in
+      let front : take range.depth (text patterns i) ≡ path =
+      ap (take range.depth) (begins_split path (text patterns i) starts)
+      ∙ take_at path (drop (length path) (text patterns i)) range.depth path_size in
+      let inside = is.whole i within front in
+      let next = byte_there path (text patterns i) byte range.depth path_size b in
+      (inside.0, inside.1, next.0, next.1)
+
+  pub leads_in : (byte : ℕ) → leads (texts_of patterns) (path_of_range patterns range ++ byte ∷ []) ≡ true
+      → (i : ℕ) × (range.low ≤ i) × (i < range.high) × (get_or (text patterns i) range.depth 0 ≡ byte)
+  unfolding leads
+  leads_in byte led =
+      let found = passed patterns (begins (path_of_range patterns range ++ byte ∷ [])) led in
+      let goes = goes_in found.at byte found.within found.passes in
+      (found.at, goes.0, goes.1, goes.3)
