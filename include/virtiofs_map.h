@@ -1046,8 +1046,9 @@ static inline enum virtiofs_code virtiofs_maps_make(const struct virtiofs_option
  * `map` rule that does not list it.
  *
  * The time of `.._audit`, `.._audit_listed`, `.._keeps_apart` and `.._shares_no_name` grows with
- * the number of rules, for some rules with its cube: for 800 of these it may take minutes.
- * So call these when a map is made, and not while a guest waits.
+ * the number of rules, for some rules with its square, and that of `.._shares_no_name` also with
+ * the length of the prepends: where keys begin with one another, and prepends too, 400 rules may
+ * take minutes. So call these when a map is made, and not while a guest waits.
  */
 
 /* Does every name of the guest, and every name in a list of the host, have a rule? If so,

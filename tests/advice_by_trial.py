@@ -3,14 +3,8 @@
 
 usage: advice_by_trial.py PROGRAM..
 
-Guests are made at random from a fixed seed. If options are advised, the text, the JSON and `--mend` have the same ones, as a
-shell reads them. An audit of them refuses nothing and finds what was said to be left: no kind that was not found, for a guest
-or a pair of guests, no id that it did not have, and fewer kinds or ids than before. By a reading of the options here, which
-knows nothing of the program, each id at a boundary becomes what it became or is forbidden, each name of some 200 passes and
-is listed as before, or is denied and hidden where no rule decided it, and all else is as it was. No id is left that does not
-round-trip, that the namespace lacks, or that keeps its number beside specifications, but where that is accepted, where access
-control lists are on, where no specification maps ids of the guest, and where a range of the namespace is at fault; and what
-is accepted of ids stays. The last line is 'N passed, N failed'.
+Guests are made at random from a fixed seed; docs/maintain/TESTS.md says what is compared. The last line is 'N passed, N
+failed'.
 """
 import json
 import os

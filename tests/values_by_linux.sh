@@ -11,11 +11,14 @@ show() {
     printf '  %s\n' "$3"
 }
 
-access() {
+# The attribute, and the command that sets it on a file.
+of_file() {
+    name=$1
+    shift
     touch file
     chmod 640 file
-    setfacl -m "$1" file
-    show file system.posix_acl_access "setfacl -m $1 file"
+    "$@" file
+    show file "$name" "$* file"
     rm file
 }
 
@@ -29,20 +32,13 @@ default() {
     rm -r folder
 }
 
-capability() {
-    touch file
-    setcap "$@" file
-    show file security.capability "setcap $* file"
-    rm file
-}
-
-access u:1000:rw
-access u:101000:rw
-access u:0:r,u:1000:rwx,u:65535:-,g:50:rx,g:1000:w
-access u:100000:r,u:101000:rwx,u:165535:-,g:200050:rx,g:201000:w
+for it in u:1000:rw u:101000:rw u:0:r,u:1000:rwx,u:65535:-,g:50:rx,g:1000:w \
+    u:100000:r,u:101000:rwx,u:165535:-,g:200050:rx,g:201000:w; do
+    of_file system.posix_acl_access setfacl -m $it
+done
 default u:1000:rwx,g:50:rx
 default u:101000:rwx,g:200050:rx
-capability cap_net_bind_service=+ep
-capability -n 1000 cap_net_bind_service=+ep
-capability -n 101000 cap_net_bind_service=+ep
-capability cap_setfcap,cap_checkpoint_restore=+ip
+of_file security.capability setcap cap_net_bind_service=+ep
+of_file security.capability setcap -n 1000 cap_net_bind_service=+ep
+of_file security.capability setcap -n 101000 cap_net_bind_service=+ep
+of_file security.capability setcap cap_setfcap,cap_checkpoint_restore=+ip

@@ -57,10 +57,12 @@ static const struct row {
 #define TEN "0123456789"
 #define FIFTY TEN TEN TEN TEN TEN
 #define BYTES_250 FIFTY FIFTY FIFTY FIFTY FIFTY
-/* A name of the guest and the host's as C strings, which is empty if the code is not OK. */
-static const struct { const char *rules, *name; uint32_t code; const char *host; } host_rows[] = {
-#define HOST(rules, name, host) { rules, name, VIRTIOFS_OK, host }
-#define NO_HOST(rules, name, code) { rules, name, VIRTIOFS_##code, "" }
+/* A name of one side and the other side's as C strings, which is empty if the code is not OK. */
+static const struct name_row { bool to_host; const char *rules, *name; uint32_t code; const char *told; } name_rows[] = {
+#define HOST(rules, name, host) { true, rules, name, VIRTIOFS_OK, host }
+#define NO_HOST(rules, name, code) { true, rules, name, VIRTIOFS_##code, "" }
+#define GUEST(rules, name, guest) { false, rules, name, VIRTIOFS_OK, guest }
+#define NO_GUEST(rules, name, code) { false, rules, name, VIRTIOFS_##code, "" }
     HOST(":map:trusted.:user.virtiofs.:", "security.x", "security.x"),
     HOST(":map:trusted.:user.virtiofs.:", "trusted.a", "user.virtiofs.trusted.a"),
     HOST(":ok:all:::", "", ""),
@@ -72,19 +74,15 @@ static const struct { const char *rules, *name; uint32_t code; const char *host;
     NO_HOST(":map:trusted.:user.virtiofs.:", "user.virtiofs.a", DENIED),
     NO_HOST(":unsupported:client:a:: :ok:all:::", "ab", UNSUPPORTED),
     NO_HOST(":ok:server::a:", "a1", UNTERMINATED),
-};
-
-/* The same of a name of the host and the guest's. */
-static const struct { const char *rules, *name; uint32_t code; const char *guest; } guest_rows[] = {
-    HOST(":map:trusted.:user.virtiofs.:", "security.x", "security.x"),
-    HOST(":map:trusted.:user.virtiofs.:", "user.virtiofs.trusted.a", "trusted.a"),
-    HOST(":ok:all:::", BYTES_250 "12345", BYTES_250 "12345"),
-    NO_HOST(":ok:all:::", BYTES_250 "123456", TOO_LONG),
-    NO_HOST(":ok:all:::", "", HIDDEN),
-    NO_HOST(":map:trusted.:user.virtiofs.:", "trusted.a", HIDDEN),
-    NO_HOST(":map:trusted.:user.virtiofs.:", "user.virtiofs.", HIDDEN),
-    NO_HOST(":unsupported:server::a: :ok:all:::", "ab", HIDDEN),
-    NO_HOST(":ok:client:::", "a", UNTERMINATED),
+    GUEST(":map:trusted.:user.virtiofs.:", "security.x", "security.x"),
+    GUEST(":map:trusted.:user.virtiofs.:", "user.virtiofs.trusted.a", "trusted.a"),
+    GUEST(":ok:all:::", BYTES_250 "12345", BYTES_250 "12345"),
+    NO_GUEST(":ok:all:::", BYTES_250 "123456", TOO_LONG),
+    NO_GUEST(":ok:all:::", "", HIDDEN),
+    NO_GUEST(":map:trusted.:user.virtiofs.:", "trusted.a", HIDDEN),
+    NO_GUEST(":map:trusted.:user.virtiofs.:", "user.virtiofs.", HIDDEN),
+    NO_GUEST(":unsupported:server::a: :ok:all:::", "ab", HIDDEN),
+    NO_GUEST(":ok:client:::", "a", UNTERMINATED),
 };
 
 /* Texts of which no map is made: what is quoted, and the fault. */
@@ -164,14 +162,14 @@ static void see_made(const char *rules, struct virtiofs_names map)
     }
 }
 
-static void see_name(struct virtiofs_names map, bool to_host, const char *name, uint32_t code, const char *wanted)
+static void see_name(struct virtiofs_names map, struct name_row it)
 {
-    const size_t len = strlen(name) + 1;
+    const size_t len = strlen(it.name) + 1;
     char *out = lent(outs, VIRTIOFS_NAME_ROOM);
-    const char *in = handed(given, name, len);
+    const char *in = handed(given, it.name, len);
     map.bytes = handed(firsts, map.bytes, map.len);
-    SEE_ROW((to_host ? virtiofs_name_to_host(map, in, out) : virtiofs_name_to_guest(map, in, out)) == code, name);
-    SEE_ROW(is_kept(outs, VIRTIOFS_NAME_ROOM, VIRTIOFS_NAME_ROOM) && !strcmp(out, wanted), name);
+    SEE_ROW((it.to_host ? virtiofs_name_to_host : virtiofs_name_to_guest)(map, in, out) == it.code, it.name);
+    SEE_ROW(is_kept(outs, VIRTIOFS_NAME_ROOM, VIRTIOFS_NAME_ROOM) && !strcmp(out, it.told), it.name);
 }
 
 static void see_refused(const struct refused_row *row)
@@ -212,8 +210,8 @@ static void test_no_map(void)
     const struct virtiofs_names rows[] = { { NULL, 0 }, { zeros, 64 }, { other, map.len }, of_ids,
                                            { bytes, map.len - 1 }, { bytes, map.len + 1 }, { bytes, PAGE } };
     for (size_t i = 0; i < COUNT(rows); i++) {
-        see_name(rows[i], true, "ab", VIRTIOFS_NO_MAP, "");
-        see_name(rows[i], false, "ab", VIRTIOFS_NO_MAP, "");
+        see_name(rows[i], (struct name_row)NO_HOST("", "ab", NO_MAP));
+        see_name(rows[i], (struct name_row)NO_GUEST("", "ab", NO_MAP));
         for (enum form form = CLIENT; form <= SHARE_NONE; form++) {
             see_no_map(form, rows[i], map);
             if (form >= APART)
@@ -237,12 +235,8 @@ int main(void)
         see_made(rows[i].rules, map);
         see_row(&rows[i], map, second);
     }
-    for (size_t i = 0; i < COUNT(host_rows); i++)
-        see_name(names_of(host_rows[i].rules, bytes[0], PAGE), true, host_rows[i].name, host_rows[i].code,
-                 host_rows[i].host);
-    for (size_t i = 0; i < COUNT(guest_rows); i++)
-        see_name(names_of(guest_rows[i].rules, bytes[0], PAGE), false, guest_rows[i].name, guest_rows[i].code,
-                 guest_rows[i].guest);
+    for (size_t i = 0; i < COUNT(name_rows); i++)
+        see_name(names_of(name_rows[i].rules, bytes[0], PAGE), name_rows[i]);
     for (size_t i = 0; i < COUNT(refused_rows); i++)
         see_refused(&refused_rows[i]);
     test_no_map();

@@ -1,4 +1,4 @@
-"""Sees that the code which pages show is code that is compiled, and that pages say the same of names."""
+"""Sees that the code which pages show is code that is compiled, and that the header has the names that they name."""
 import re
 from textwrap import dedent
 
@@ -21,10 +21,6 @@ def stands(block, files):
     return any(block in runs_of_lines(text, block.count("\n")) for text in files)
 
 
-def names_of(page):
-    return page.split("\n## One name for each thing\n")[1].split("\n## ")[0]
-
-
 def shown(top):
     """What to see, and what is wrong with it."""
     pages = {it: (top / "docs" / it).read_text("utf-8") for it in PAGES}
@@ -42,4 +38,3 @@ def shown(top):
     declared = set(re.findall(r"\w+", re.sub(r"/\*.*?\*/", "", header, flags=re.S)))
     wrong = {it for page in pages.values() for it in OF_C.findall(page)} - declared - {"VIRTIOFS_MAP_LIB"}
     yield "names of the header", sorted(wrong)
-    yield "one name for each thing", [] if len({names_of(it) for it in pages.values()}) == 1 else ["the pages differ"]

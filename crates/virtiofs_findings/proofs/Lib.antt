@@ -1,6 +1,5 @@
 mod AclNameLemmas
 mod AdviceLemmas
-mod AlikeLemmas
 mod ExplainLemmas
 mod ExplainQuestionLemmas
 mod IdLemmas

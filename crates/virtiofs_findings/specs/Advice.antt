@@ -1,6 +1,6 @@
 -- Options that are advised in place of those of guests: the guests can do no more with them, and less is found.
-use Rattle.std.specs.Prelude.{◌≡◌, ◌≢◌, ◌⊎◌, ◌≤◌, List, [], length, All, Contains, Option, Some, None}
-use Rattle.std.specs.List.{AllZip}
+use Rattle.std.specs.Prelude.{◌≡◌, ◌≢◌, ◌⊎◌, Bool, ◌&&◌, nat_le, IsTrue, List, [], length, All, Contains, Option, Some, None}
+use Rattle.std.specs.List.{AllZip, list_all, list_any}
 use Rattle.std.specs.declared.vec.Vec.{Vec}
 use Rattle.virtiofs_id_audit.specs.declared.spans.Span.{Span}
 use Rattle.virtiofs_findings.specs.Guests.{SetsUp}
@@ -46,12 +46,15 @@ abbrev pub second_ids : {A : Type 0} → Evidence A → List Span
 second_ids (evidence.BothIds users groups) = ids_found groups
 second_ids other = []
 
--- the span lies in the other one; each of the spans lies in one of these
-abbrev pub LiesIn : Span → Span → Type 0
-LiesIn span other = (other.first ≤ span.first) × (span.last ≤ other.last)
+-- the span lies in the other one, or in one of these; each of the spans does
+abbrev pub lies_in : Span → Span → Bool
+lies_in span other = nat_le other.first span.first && nat_le span.last other.last
 
-abbrev pub AllLieIn : List Span → List Span → Type 0
-AllLieIn others = All (λ span. AnyHas (LiesIn span) others)
+abbrev pub lies_in_any : Span → List Span → Bool
+lies_in_any span others = list_any (λ other. lies_in span other) others
+
+abbrev pub all_lie_in : List Span → List Span → Bool
+all_lie_in others spans = list_all (λ span. lies_in_any span others) spans
 
 -- it says what the other says, of the same guests, and of ids of the same kind; and its ids are among those of the other
 pub record IsAlike {A : Type 0} (finding other : Finding A) : Type 0 where
@@ -59,10 +62,11 @@ pub record IsAlike {A : Type 0} (finding other : Finding A) : Type 0 where
   pub kind : finding.kind ≡ other.kind
   pub ids : ids_of finding.evidence ≡ ids_of other.evidence
 
-pub record IsWithin {A : Type 0} (finding other : Finding A) : Type 0 where
-  pub alike : IsAlike finding other
-  pub first : AllLieIn (first_ids other.evidence) (first_ids finding.evidence)
-  pub second : AllLieIn (second_ids other.evidence) (second_ids finding.evidence)
+abbrev pub IsWithin : {A : Type 0} → Finding A → Finding A → Type 0
+IsWithin finding other =
+    IsAlike finding other
+    × IsTrue (all_lie_in (first_ids other.evidence) (first_ids finding.evidence))
+    × IsTrue (all_lie_in (second_ids other.evidence) (second_ids finding.evidence))
 
 -- it is not accepted, and is within none of the others
 abbrev pub IsNew : {A : Type 0} → List Kind → List (Finding A) → Finding A → Type 0

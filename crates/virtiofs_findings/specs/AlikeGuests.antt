@@ -1,8 +1,9 @@
 -- Guests with the same options.
-use Rattle.std.specs.Prelude.{ℕ, ◌+◌, ◌-◌, Bool, true, false, ◌&&◌, ◌||◌, not, if◌then◌else◌, ◌==◌, List, [], ◌∷◌, length, map}
+use Rattle.std.specs.Prelude.{ℕ, ◌+◌, ◌-◌, Bool, true, false, ◌&&◌, ◌||◌, not, ◌==◌, List, drop, filter, length, map, position}
 use Rattle.std.specs.Prelude.{Option, Some, None, bytes_eq, slice_get}
 use Rattle.std.specs.Borrow.{Bor}
 use Rattle.std.specs.Cmp.Lexicographic.{pointwise}
+use Rattle.std.specs.Option.{option_map_or}
 use Rattle.virtiofs_findings.specs.declared.alike.Alike.{Alike}
 use Rattle.virtiofs_findings.specs.declared.guest.Guest.{Guest}
 use Rattle.virtiofs_host.specs.declared.runner.Runner.{Runner}
@@ -62,22 +63,23 @@ have_same_options guest other =
     && is_same_starter guest.options.starter other.options.starter
     && is_same_runner guest.runner other.runner
 
--- the numbers of those guests that have the same options as one; the first guest has that number
-abbrev pub numbers_alike : {A : Type 0} → Guest A → ℕ → List (Guest A) → List ℕ
-numbers_alike guest number [] = []
-numbers_alike guest number (other ∷ guests) =
-    if have_same_options other guest then number ∷ numbers_alike guest (number + 1) guests
-    else numbers_alike guest (number + 1) guests
+-- the number of the first guest behind so many that has the same options as one; if there is none, that of the last of
+-- these
+abbrev pub next_alike : {A : Type 0} → List (Guest A) → Guest A → ℕ → ℕ
+next_alike guests guest number =
+    option_map_or (λ between. number + between + 1) (position (λ other. have_same_options other guest) (drop number guests)) number
 
--- the first two of these numbers, and how many they are
-abbrev pub alike_of : List ℕ → Alike
-alike_of [] = record { first = 0; second = 0; count = 0 }
-alike_of (first ∷ []) = record { first = first; second = first; count = 1 }
-alike_of (first ∷ second ∷ numbers) = record { first = first; second = second; count = 2 + length numbers }
+-- how many guests have the same options as one
+abbrev pub count_alike : {A : Type 0} → List (Guest A) → Guest A → ℕ
+count_alike guests guest = length (filter (λ other. have_same_options other guest) guests)
 
 -- the guests that have the same options as one of them
 abbrev pub alike_to : {A : Type 0} → List (Guest A) → Guest A → Alike
-alike_to guests guest = alike_of (numbers_alike guest 1 guests)
+alike_to guests guest = record {
+  first = next_alike guests guest 0;
+  second = next_alike guests guest (next_alike guests guest 0);
+  count = count_alike guests guest;
+}
 
 -- the same for each guest
 abbrev pub likes_of : {A : Type 0} → List (Guest A) → List Alike

@@ -1,6 +1,6 @@
 //! Guests with the same options. What is said of one of them is true of all, and is said once.
-ghost use Rattle.std.specs.Prelude.{◌≡◌, ◌<◌, ◌++◌, ◌∷◌, [], List, ℕ, IfOk};
-ghost use Rattle.virtiofs_findings.specs.AlikeGuests.{are_both, is_same_by, is_same_runner, is_same_starter, have_same_options, have_same_texts, alike_of, alike_to, likes_of, is_first, is_second, is_told};
+ghost use Rattle.std.specs.Prelude.{◌≡◌, ◌<◌, ◌≤◌, length, position, IfOk, IfSome};
+ghost use Rattle.virtiofs_findings.specs.AlikeGuests.{are_both, is_same_by, is_same_runner, is_same_starter, have_same_options, have_same_texts, next_alike, count_alike, alike_to, likes_of, is_first, is_second, is_told};
 
 use crate::guest::Guest;
 use std::alloc::{AllocError, Allocator};
@@ -81,39 +81,50 @@ fn have_same_options<A: Allocator>(guest: &Guest<'_, A>, other: &Guest<'_, A>) -
     texts && lists && flags && xattrs && sandboxes && starters && runner
 }
 
-/// These guests, and one more of a greater number.
-fn with_one(alike: Alike, number: usize) -> Alike
-    requires { alike.count < number }
-    ensures { (numbers : List ℕ) → alike ≡ alike_of numbers
-        → result ≡ alike_of (numbers ++ number ∷ []) }
+/// The place of the first guest that has the same options as one.
+fn place_alike<A: Allocator>(guests: &[Guest<'_, A>], guest: &Guest<'_, A>) -> Option<usize>
+    ensures first { result
+        ≡ position (λ other. have_same_options other guest.now) guests.now }
+    ensures within { IfSome result (λ place. place < length guests.now) }
 {
-    let is_among_two = alike.count < 2;
-    Alike {
-        first: if alike.count == 0 {
-            number
-        } else {
-            alike.first
-        },
-        second: if is_among_two { number } else { alike.second },
-        count: alike.count + 1,
+    guests
+        .iter()
+        .position(|other| have_same_options(other, guest))
+}
+
+/// The number of the first guest behind so many that has the same options as one; if there is none, that of
+/// the last of these.
+fn next_alike<A: Allocator>(guests: &[Guest<'_, A>], guest: &Guest<'_, A>, number: usize) -> usize
+    requires { number ≤ length guests.now }
+    ensures next { result ≡ next_alike guests.now guest.now number }
+    ensures within { result ≤ length guests.now }
+{
+    match place_alike(&guests[number..], guest) {
+        Some(between) => number + between + 1,
+        None => number,
     }
+}
+
+/// How many guests have the same options as one.
+fn count_alike<A: Allocator>(guests: &[Guest<'_, A>], guest: &Guest<'_, A>) -> usize
+    ensures { result ≡ count_alike guests.now guest.now }
+{
+    guests
+        .iter()
+        .filter(|other| have_same_options(other, guest))
+        .count()
 }
 
 /// The guests that have the same options as one of them.
 pub fn alike_to<A: Allocator>(guests: &[Guest<'_, A>], guest: &Guest<'_, A>) -> Alike
     ensures { result ≡ alike_to guests.now guest.now }
 {
-    let mut alike = Alike {
-        first: 0,
-        second: 0,
-        count: 0,
-    };
-    for place in 0..guests.len() {
-        if have_same_options(&guests[place], guest) {
-            alike = with_one(alike, place + 1);
-        }
+    let first = next_alike(guests, guest, 0);
+    Alike {
+        first,
+        second: next_alike(guests, guest, first),
+        count: count_alike(guests, guest),
     }
-    alike
 }
 
 /// For each guest, those that have the same options.

@@ -4,7 +4,7 @@ ghost use Rattle.std.specs.Str.{chars};
 ghost use Rattle.virtiofs_map.specs.Refusal.{OutOfMemoryOr};
 ghost use Rattle.virtiofs_map.specs.RulesFault.{RulesFault, HasRulesFault, rules_fault_of};
 ghost use Rattle.std.specs.Option.{option_map};
-ghost use Rattle.virtiofs_findings.specs.Guests.{ReadsSpecs, SayRanges, ReadsRanges, ReadsIds, RunsIn, is_other, is_by_another, users_of, groups_of, process_of, has_ranges, has_namespaces, acts_as_own, no_start, no_start_of, RefusesRules, ReadsText, ReadsNames, SetsUp, Translates, passes};
+ghost use Rattle.virtiofs_findings.specs.Guests.{ReadsSpecs, SayRanges, ReadsRanges, ReadsIds, RunsIn, is_by_another, users_of, groups_of, process_of, has_ranges, acts_as_own, no_start, no_start_of, RefusesRules, ReadsText, ReadsNames, SetsUp, Translates, passes};
 ghost use Rattle.virtiofs_map.specs.Printed.{build_error_text, rules_error_text};
 ghost use Rattle.virtiofs_findings.specs.Lists.{Adds};
 ghost use Rattle.virtiofs_findings.specs.Refusals.{IsAt, place_of, TellsSpecsFault, TellsSpecs, TellsNoRange, TellsRanges, TellsIds, TellsNames, TellsGuest};
@@ -415,26 +415,13 @@ fn has_ranges<A: Allocator>(guest: &Guest<'_, A>) -> bool
     !guest.options.uid_map.is_empty() || !guest.options.gid_map.is_empty()
 }
 
-/// Whether the sandbox of the daemon of a guest is made of namespaces.
-fn has_namespaces<A: Allocator + Copy>(guest: &Guest<'_, A>) -> bool
-    ensures { result ≡ has_namespaces guest.now }
-{
-    matches!(guest.options.kept_apart(), Sandbox::Namespace)
-}
-
 /// Whether the daemon of a guest acts, for a kind without ranges, as its own id alone: it has ranges of the
 /// other kind in a sandbox of namespaces, or it is not root who starts it.
 fn acts_as_own<A: Allocator + Copy>(guest: &Guest<'_, A>) -> bool
     ensures { result ≡ acts_as_own guest.now }
 {
-    has_namespaces(guest) && has_ranges(guest) || own_of(users_of(guest)) > 0
-}
-
-/// Whether words say that another user than root starts a daemon.
-fn is_other(by: By) -> bool
-    ensures { result ≡ is_other by }
-{
-    matches!(by, By::Another)
+    matches!(guest.options.kept_apart(), Sandbox::Namespace) && has_ranges(guest)
+        || own_of(users_of(guest)) > 0
 }
 
 /// Whether another user than root starts the daemon of a guest, of whom it is not said who it is: words say
@@ -442,7 +429,7 @@ fn is_other(by: By) -> bool
 fn is_by_another<A: Allocator>(guest: &Guest<'_, A>) -> bool
     ensures { result ≡ is_by_another guest.now }
 {
-    guest.runner.is_none() && (is_other(guest.options.starter.by) || has_ranges(guest))
+    guest.runner.is_none() && (matches!(guest.options.starter.by, By::Another) || has_ranges(guest))
 }
 
 /// Why the daemon of a guest does not start, if it does not run already.

@@ -1,9 +1,13 @@
--- Which ids some spans have, with one span more.
-use Rattle.std.proofs.Common.{◌↔◌, ◌⊎◌, inl, inr, ℕ, List, [], ◌∷◌, ◌++◌, refl, arith, rules}
+-- Which ids some spans have, with one span more, and how often.
+use Rattle.std.proofs.Common.{◌≡◌, ◌↔◌, ◌⊎◌, inl, inr, ℕ, ◌≤◌, List, [], ◌∷◌, ◌++◌, refl, arith, rules}
+use Rattle.std.proofs.lemmas.Bool.{cases_lt}
+use Rattle.std.proofs.lemmas.Bool.Decides.{nat_tests}
 use Rattle.std.proofs.lemmas.List.Elements.{All-contains, All-cons, All-nil, Contains-append_cases}
 use Rattle.std.proofs.lemmas.List.Elements.{Contains-append_right, Contains-push, Contains-push_cases}
 use Rattle.std.proofs.lemmas.List.Elements.{Contains-append_left}
-use Rattle.virtiofs_id_audit.specs.IdAuditParts.{Has, Hold}
+use Rattle.std.proofs.lemmas.List.Sums.{sum_by-cons}
+use Rattle.virtiofs_id_audit.specs.IdAudit.{Has, Hold}
+use Rattle.virtiofs_id_audit.specs.IdAuditParts.{has_times, times}
 use Rattle.virtiofs_id_audit.specs.declared.spans.Span.{Span}
 
 -- one more at the end
@@ -35,3 +39,18 @@ hold_none id (span, listed, has) = absurd (omega (arith, listed.1))
 -- one span has the ids that it has
 pub hold_one : (span : Span) (id : ℕ) → Hold (span ∷ []) id → Has span id
 hold_one span id held = search (rules, hold_front, hold_none)
+
+-- ---- how many of them have an id
+
+pub has_or_not : (span : Span) (id : ℕ)
+    → ((has_times id span ≡ 1) × Has span id) ⊎ ((has_times id span ≡ 0) × (¬ Has span id))
+has_or_not span id = search (rules, cases_lt, nat_tests)
+
+-- spans have an id where one of them counts it
+pub times_hold : (spans : List Span) (id : ℕ) → (1 ≤ times spans id) ↔ Hold spans id
+times_hold [] id = ((λ some. absurd (omega (arith, some))), (λ held. absurd (hold_none id held)))
+times_hold (span ∷ spans) id =
+    let all = sum_by-cons (has_times id) span spans in
+    let rest = times_hold spans id in
+    let front = hold_front span spans id in
+    search (rules, has_or_not)

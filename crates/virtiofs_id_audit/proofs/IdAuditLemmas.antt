@@ -4,14 +4,14 @@ use Rattle.std.proofs.Common.{Result, Ok, Err, IfOk, rules}
 use Rattle.std.proofs.lemmas.Bool.{cases_eq, cases_order}
 use Rattle.std.proofs.lemmas.Bool.Decides.{nat_tests}
 use Rattle.virtiofs_id_audit.specs.IdAudit.{IsLeastId, IsLeastIfAny, GoesTo, ComesBack, IsAstray, IsAlone, IsShared}
-use Rattle.virtiofs_id_audit.specs.IdAudit.{SharesWith, SharedAs, GoesInto, Between, ReachedBy, AreIdsApart}
-use Rattle.virtiofs_id_audit.specs.IdAuditParts.{Hold, AreImages, times, once_below}
+use Rattle.virtiofs_id_audit.specs.IdAudit.{SharesWith, SharedAs, GoesInto, Between, ReachedBy, AreIdsApart, Hold}
+use Rattle.virtiofs_id_audit.specs.IdAuditParts.{AreImages, times}
 use Rattle.virtiofs_id_audit.specs.declared.answer.IdAudit.TheVariants.{Yes, No}
 use Rattle.virtiofs_id_audit.specs.declared.spans.Span.{Span}
 use Rattle.virtiofs_map.specs.Build.{Accepted}
 use Rattle.virtiofs_map.specs.declared.cmdline.IdMap.{IdMap}
 use Rattle.virtiofs_id_audit.proofs.HeldLemmas.{hold_one}
-use Rattle.virtiofs_id_audit.proofs.ImageLemmas.{times-bounded}
+use Rattle.virtiofs_id_audit.proofs.HeldLemmas.{times_hold}
 use Rattle.virtiofs_map.proofs.ForCallers.{Becomes-one}
 
 -- ---- Yes and No
@@ -48,14 +48,11 @@ IsAlone-all specs none guest other host goes other_goes =
     ]
 
 module _ (specs : List IdMap) (images again : List Span) (are : AreImages specs images)
-    (twice : (id : ℕ) → Hold again id ↔ (2 ≤ times images id + once_below 0 id)) where
-  held_twice : (id : ℕ) → Hold again id ↔ (2 ≤ times images id)
-  held_twice id = (λ held. (let two = (twice id).0 held in grind (arith, nat_tests)), λ two. (twice id).1 (omega arith))
-
+    (twice : (id : ℕ) → Hold again id ↔ (2 ≤ times images id)) where
   -- an id that goes where another one does shares with it
   two_share : (n m host : ℕ) → n ≢ m → GoesTo specs n host → GoesTo specs m host → Hold again host
   two_share n m host differ goes other_goes =
-      (held_twice host).1 ((are.counts host).two.1 (
+      (twice host).1 ((are host).two.1 (
       elim (cases_order n m) [
         | inl same ↦ absurd (differ same)
         | inr (inl before) ↦ (n, m, omega arith, before, omega (arith, other_goes), goes, other_goes)
@@ -63,19 +60,19 @@ module _ (specs : List IdMap) (images again : List Span) (are : AreImages specs 
       ]
       ))
 
-  pub IsShared-into : (n : ℕ) → IsShared specs n → (0 ≤ n) × GoesInto specs (Hold again) n
+  IsShared-into : (n : ℕ) → IsShared specs n → GoesInto specs (Hold again) n
   IsShared-into n (other, shares) = search (rules, two_share)
 
-  pub into-IsShared : (n : ℕ) → (0 ≤ n) × GoesInto specs (Hold again) n → IsShared specs n
-  into-IsShared n (low, goes) =
+  into-IsShared : (n : ℕ) → GoesInto specs (Hold again) n → IsShared specs n
+  into-IsShared n goes =
       let (a, b, from, less, below, a_goes, b_goes) =
-      (are.counts goes.host).two.0 ((held_twice goes.host).0 goes.is_one) in
+      (are goes.host).two.0 ((twice goes.host).0 goes.is_one) in
       elim (cases_eq a n) [
         | inl same ↦ search rules
         | inr differ ↦ (a, record { host = goes.host; differ = differ; goes = goes.goes; other_goes = a_goes })
       ]
 
-  pub IsLeastIfAny-shared : (least : Option ℕ) → IsLeastIfAny (λ n. (0 ≤ n) × GoesInto specs (Hold again) n) least
+  pub IsLeastIfAny-shared : (least : Option ℕ) → IsLeastIfAny (GoesInto specs (Hold again)) least
       → IsLeastIfAny (IsShared specs) least
   IsLeastIfAny-shared least found = search (rules, IsLeastIfAny-same, into-IsShared, IsShared-into)
 
@@ -133,6 +130,11 @@ into_like : (specs : List IdMap) (from : ℕ) (hosts others : ℕ → Type 0) (l
     → IsLeastIfAny (λ n. (from ≤ n) × GoesInto specs others n) least
 into_like specs from hosts others least same found = search (rules, IsLeastIfAny-same, GoesInto-same)
 
+pub into_same : (specs : List IdMap) (hosts others : ℕ → Type 0) (least : Option ℕ)
+    → ((id : ℕ) → hosts id ↔ others id) → IsLeastIfAny (GoesInto specs hosts) least
+    → IsLeastIfAny (GoesInto specs others) least
+into_same specs hosts others least same found = search (rules, IsLeastIfAny-same, GoesInto-same)
+
 -- of all ids of the guest
 pub into_any : (specs : List IdMap) (hosts others : ℕ → Type 0) (least : Option ℕ)
     → ((id : ℕ) → hosts id ↔ others id) → IsLeastIfAny (λ n. (0 ≤ n) × GoesInto specs hosts n) least
@@ -164,32 +166,13 @@ pub AreIdsApart-none : (specs others : List IdMap) → AreIdsApart specs others 
     → ¬ GoesInto specs (ReachedBy others) n
 AreIdsApart-none specs others apart n goes = apart n goes.host goes.goes goes.is_one
 
-module _ (others : List IdMap) (images again : List Span) (are : AreImages others images)
-    (all : (id : ℕ) → Hold again id ↔ (2 ≤ times images id + once_below 4294967296 id)) where
-  pub Hold-reached : (id : ℕ) → Hold again id → ReachedBy others id
-  Hold-reached id held =
-      let (n, from, within, goes) = (are.counts id).one.0 (grind (arith, nat_tests)) in
-      (n, goes)
+-- ---- what the guest reaches
 
-  pub reached-Hold : (id : ℕ) → ReachedBy others id → Hold again id
-  reached-Hold id (n, goes) =
-      let once : 1 ≤ times images id = (are.counts id).one.1 (n, omega arith, omega (arith, goes), goes) in
-      let bounded : id ≤ 4294967295 = times-bounded images id are.spans once in
-      (all id).1 (grind (arith, nat_tests))
-
-  -- what becomes an id of the spans becomes one that the second map reaches
-  pub IsLeastIfAny-reached : (specs : List IdMap) (least : Option ℕ)
-      → IsLeastIfAny (λ n. (0 ≤ n) × GoesInto specs (Hold again) n) least
-      → IsLeastIfAny (GoesInto specs (ReachedBy others)) least
-  IsLeastIfAny-reached specs least =
-      into_any specs (Hold again) (ReachedBy others) least (λ id. (Hold-reached id, reached-Hold id))
-
--- ---- spans of the caller's
-
--- the spans that come of the images of a map have the ids that the guest reaches
-pub reached_all : {A E : Type 0} (r : Result (Vec Span A) E) (specs : List IdMap) (images : List Span)
-    → AreImages specs images
-    → IfOk r (λ again. (id : ℕ) → Hold again.items id ↔ (2 ≤ times images id + once_below 4294967296 id))
-    → IfOk r (λ again. (host : ℕ) → Hold again.items host ↔ ReachedBy specs host)
-reached_all (Ok again) specs images are all = search (rules, Hold-reached, reached-Hold)
-reached_all (Err e) specs images are all = tt
+-- the spans that come of the images of a map have the ids that it reaches
+pub reached_all : (specs : List IdMap) (images merged : List Span) → AreImages specs images
+    → ((id : ℕ) → Hold merged id ↔ Hold images id) → (host : ℕ) → Hold merged host ↔ ReachedBy specs host
+reached_all specs images merged are same host =
+    let counts = times_hold images host in
+    let one = (are host).one in
+    let held = same host in
+    search rules

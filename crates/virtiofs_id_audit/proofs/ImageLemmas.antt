@@ -1,31 +1,20 @@
 -- How often the guest reaches an id of the host.
-use Rattle.std.proofs.Common.{◌≡◌, inl, inr, ◌⊎◌, ℕ, ◌+◌, ◌-◌, ◌<◌, ◌≤◌, min, true, false, List, [], ◌∷◌, ◌++◌, Some}
-use Rattle.std.proofs.Common.{None, sym, ap, ◌∙◌, arith, ◌↔◌, rules}
-use Rattle.std.specs.List.{All, AllByRecursion}
-use Rattle.std.specs.List.Sorted.{IsPermutation, IsNonDecreasingBy}
+use Rattle.std.proofs.Common.{◌≡◌, inl, inr, ℕ, ◌+◌, ◌-◌, ◌<◌, ◌≤◌, min, true, false, List, [], ◌∷◌, ◌++◌, Some, None}
+use Rattle.std.proofs.Common.{sym, ap, ◌∙◌, arith, rules}
 use Rattle.std.proofs.lemmas.Bool.{cases_lt, cases_order}
-use Rattle.std.proofs.lemmas.Bool.Decides.{nat_tests}
-use Rattle.std.proofs.lemmas.List.Elements.{recursion_from_All}
-use Rattle.std.proofs.lemmas.List.Sorted.{All-permutation, sum_by-IsPermutation}
-use Rattle.std.proofs.lemmas.List.Sums.{sum_by-cons, sum_by_push}
+use Rattle.std.proofs.lemmas.List.Sums.{sum_by_push}
 use Rattle.std.proofs.lemmas.Option.{same_Some}
-use Rattle.virtiofs_id_audit.specs.IdAudit.{GoesTo}
-use Rattle.virtiofs_id_audit.specs.IdAuditParts.{IsSpan, Has, Hold, has_times, times, CountsGuests, AreImages}
+use Rattle.virtiofs_id_audit.specs.IdAudit.{GoesTo, Has}
+use Rattle.virtiofs_id_audit.specs.IdAuditParts.{has_times, times, CountsGuests, AreImages}
 use Rattle.virtiofs_id_audit.specs.declared.spans.Span.{Span}
 use Rattle.virtiofs_map.specs.Build.{Accepted}
 use Rattle.virtiofs_map.specs.Pieces.{is_one_to_one, value_in, IsPiece, PiecesLeft, GivesPiece}
 use Rattle.virtiofs_map.specs.declared.cmdline.IdMap.{IdMap}
 use Rattle.virtiofs_map.specs.declared.soft_idmap.entry.Direction.TheVariants.{GuestToHost}
 use Rattle.virtiofs_map.specs.declared.soft_idmap.piece.Piece.{Piece}
-use Rattle.virtiofs_id_audit.proofs.HeldLemmas.{hold_front, hold_none}
+use Rattle.virtiofs_id_audit.proofs.HeldLemmas.{has_or_not}
 use Rattle.virtiofs_id_audit.proofs.PieceLemmas.{value-each, value-not_each, value-forbidden}
 use Rattle.virtiofs_map.proofs.ForCallers.{lookup_one_value}
-
--- ---- a span has an id or not
-
-pub has_or_not : (span : Span) (id : ℕ)
-    → ((has_times id span ≡ 1) × Has span id) ⊎ ((has_times id span ≡ 0) × (¬ Has span id))
-has_or_not span id = search (rules, cases_lt, nat_tests)
 
 -- ---- counts of two stretches of ids are added
 
@@ -209,36 +198,6 @@ pub CountsSoFar-more : (specs : List IdMap) (spans more : List Span) (left after
     → CountsGuests specs 0 (piece.last + 1) host (times more host)) → CountsSoFar specs more after
 CountsSoFar-more specs spans more left after piece so_far gives step = search rules
 
-pub AreImages-sorted : (specs : List IdMap) (spans sorted : List Span) (left after : PiecesLeft)
-    → CountsSoFar specs spans left → GivesPiece left None after → All IsSpan spans → IsPermutation spans sorted
-    → IsNonDecreasingBy (λ span. span.first) sorted → AreImages specs sorted
-AreImages-sorted specs spans sorted left after so_far gives some permutation rising = record {
-  spans = All-permutation IsSpan spans sorted permutation some;
-  firsts = rising;
-  counts =
-      λ host. rw (sum_by-IsPermutation (has_times host) spans sorted permutation) (rw gives.0 at (so_far.counts host));
-}
-
--- what no span has is beyond the ids
-has_bounded : (spans : List Span) (id : ℕ) → AllByRecursion IsSpan spans → 1 ≤ times spans id → id ≤ 4294967295
-has_bounded [] id each some = absurd (omega arith)
-has_bounded (span ∷ spans) id (is, each) some =
-    let all = sum_by-cons (has_times id) span spans in
-    elim (has_or_not span id) [
-      | inl (once, has) ↦ omega arith
-      | inr (never, not) ↦ has_bounded spans id each (omega arith)
-    ]
-
-pub times-bounded : (spans : List Span) (id : ℕ) → All IsSpan spans → 1 ≤ times spans id → id ≤ 4294967295
-times-bounded spans id all some = has_bounded spans id (recursion_from_All IsSpan spans all) some
-
--- ---- spans that have an id are counted
-
--- spans have an id where one of them counts it
-pub times_hold : (spans : List Span) (id : ℕ) → (1 ≤ times spans id) ↔ Hold spans id
-times_hold [] id = ((λ some. absurd (omega (arith, some))), (λ held. absurd (hold_none id held)))
-times_hold (span ∷ spans) id =
-    let all = sum_by-cons (has_times id) span spans in
-    let rest = times_hold spans id in
-    let front = hold_front span spans id in
-    search (rules, has_or_not)
+pub AreImages-all : (specs : List IdMap) (spans : List Span) (left after : PiecesLeft)
+    → CountsSoFar specs spans left → GivesPiece left None after → AreImages specs spans
+AreImages-all specs spans left after so_far gives host = rw gives.0 at (so_far.counts host)

@@ -1,20 +1,78 @@
 -- What ids of the guest come back as.
-use Rattle.std.proofs.Common.{◌≡◌, inl, inr, ℕ, ◌+◌, ◌-◌, ◌<◌, ◌≤◌, true, false, List, Option, Some, None, IsSomeAnd}
-use Rattle.std.proofs.Common.{refl, sym, ap, ◌∙◌, arith, rules}
+use Rattle.std.proofs.Common.{◌≡◌, ◌⊎◌, inl, inr, ℕ, ◌+◌, ◌-◌, ◌<◌, ◌≤◌, true, false, List, [], ◌∷◌, Contains, Option}
+use Rattle.std.proofs.Common.{Some, None, IsSomeAnd, refl, sym, ap, ◌∙◌, arith, rules}
 use Rattle.std.proofs.lemmas.Bool.{cases_eq, cases_lt}
+use Rattle.std.proofs.lemmas.List.Elements.{All-cons, All-contains, All-nil, Contains-append_right}
+use Rattle.std.proofs.lemmas.List.Elements.{Contains-append_cases}
 use Rattle.std.proofs.lemmas.Option.{same_Some}
-use Rattle.virtiofs_id_audit.specs.IdAudit.{IsLeastId, IsLeastIfAny, GoesTo, ComesBack, IsAstray}
-use Rattle.virtiofs_id_audit.specs.IdAuditParts.{ComesBackAs, ReturnsBy, IsMoved, ComeBackBelow}
+use Rattle.virtiofs_id_audit.specs.IdAudit.{ComesBack, IsAstray}
+use Rattle.virtiofs_id_audit.specs.IdAuditParts.{ComesBackAs, ReturnsBy, IsMoved}
 use Rattle.virtiofs_map.specs.Build.{Accepted}
-use Rattle.virtiofs_map.specs.Mapping.{Becomes, entry_of, EntryCovers, target_of}
+use Rattle.virtiofs_map.specs.Mapping.{entry_of, EntryCovers, target_of, Covers, Maps, Becomes}
 use Rattle.virtiofs_map.specs.MappingLaws.{LeadsBack}
 use Rattle.virtiofs_map.specs.Pieces.{IsMade, IsStretch, is_one_to_one, value_in, IsNamed}
 use Rattle.virtiofs_map.specs.declared.cmdline.IdMap.{IdMap}
+use Rattle.virtiofs_map.specs.declared.soft_idmap.entry.Direction.{Direction}
 use Rattle.virtiofs_map.specs.declared.soft_idmap.entry.Direction.TheVariants.{GuestToHost, HostToGuest}
 use Rattle.virtiofs_map.specs.declared.soft_idmap.entry.Entry.{Entry}
 use Rattle.virtiofs_map.specs.declared.soft_idmap.piece.Piece.{Piece}
 use Rattle.virtiofs_id_audit.proofs.PieceLemmas.{value-each, value-not_each, value-forbidden}
-use Rattle.virtiofs_map.proofs.ForCallers.{lookup_one_value}
+use Rattle.virtiofs_map.proofs.ForCallers.{Becomes-forbidden, Becomes-one, lookup_one_value}
+
+-- ---- every number becomes something
+
+pub covered_maps : (spec : IdMap) (direction : Direction) (n : ℕ) → Covers spec direction n
+    → (value : Option ℕ) × Maps spec direction n value
+covered_maps spec direction n covers = by (entry_of spec direction) covers where
+  by : (o : Option Entry) → IsSomeAnd o (λ entry. EntryCovers entry n)
+      → (value : Option ℕ) × IsSomeAnd o (λ entry. EntryCovers entry n × (target_of entry n ≡ value))
+  by None covers = absurd covers
+  by (Some entry) covers = (target_of entry n, (covers, refl))
+
+pub only : (spec other : IdMap) → Contains (spec ∷ []) other → other ≡ spec
+only spec other listed = search (rules, All-contains, All-cons, All-nil)
+
+covers_or_not : (spec : IdMap) (direction : Direction) (n : ℕ) → Covers spec direction n ⊎ (¬ Covers spec direction n)
+covers_or_not spec direction n = by (entry_of spec direction) where
+  by : (o : Option Entry)
+      → IsSomeAnd o (λ entry. EntryCovers entry n) ⊎ (¬ IsSomeAnd o (λ entry. EntryCovers entry n))
+  by None = inr (λ covers. covers)
+  by (Some entry) = search (rules, cases_lt)
+
+one_covers_or_none : (specs : List IdMap) (direction : Direction) (n : ℕ)
+    → ((spec : IdMap) × Contains specs spec × Covers spec direction n)
+    ⊎ ((spec : IdMap) → Contains specs spec → ¬ Covers spec direction n)
+one_covers_or_none [] direction n = inr (λ spec (k, inside, here). absurd (omega arith))
+one_covers_or_none (spec ∷ specs) direction n =
+    elim (covers_or_not spec direction n) [
+      | inl covers ↦ inl (spec, (0, omega arith, refl), covers)
+      | inr not ↦ elim (one_covers_or_none specs direction n) [
+        | inl (other, listed, covers) ↦
+            inl (other, Contains-append_right (spec ∷ []) specs other listed, covers)
+        | inr none ↦ search (rules, Contains-append_cases, only)
+      ]
+    ]
+
+becomes_some : (specs : List IdMap) (direction : Direction) (n : ℕ) → (value : Option ℕ) × Becomes specs direction n value
+becomes_some specs direction n =
+    elim (one_covers_or_none specs direction n) [
+      | inl (spec, listed, covers) ↦ search (rules, covered_maps)
+      | inr none ↦ (Some n, inr (none, refl))
+    ]
+
+-- so what cannot but lead back does
+pub LeadsBack-stable : (specs : List IdMap) (guest host : ℕ) → Accepted specs
+    → ¬ (¬ LeadsBack specs GuestToHost guest host) → LeadsBack specs GuestToHost guest host
+LeadsBack-stable specs guest host accepted not =
+    let (value, becomes) = becomes_some specs HostToGuest host in
+    by value becomes where
+      by : (value : Option ℕ) → Becomes specs HostToGuest host value → LeadsBack specs GuestToHost guest host
+      by None becomes = search (rules, Becomes-forbidden)
+      by (Some back) becomes =
+          elim (cases_eq back guest) [
+            | inl same ↦ rw same at becomes
+            | inr differ ↦ search (rules, Becomes-one)
+          ]
 
 -- ---- ids of the host
 
@@ -83,87 +141,38 @@ back-all back to host d all named start = sym ((value-not_each back to all start
 
 -- ---- ids that do not come back
 
-pub IsMoved-astray : (specs : List IdMap) (trip : Piece) (n : ℕ) → Accepted specs → ReturnsBy specs trip
-    → trip.first ≤ n → n ≤ trip.last → IsAstray specs n → IsMoved trip n
-IsMoved-astray specs trip n accepted returns from to astray = moved (value_in trip n) refl (returns n from to) where
-  moved : (value : Option ℕ) → value_in trip n ≡ value → ComesBackAs specs n (value_in trip n) → IsMoved trip n
-  moved value is (inl (forbidden, none)) =
-      let both : Some astray.host ≡ None =
-      lookup_one_value specs accepted GuestToHost n _ _ astray.goes.becomes forbidden in
-      absurd (cc)
-  moved None is (inr (host, goes, back)) = absurd (never_forbidden specs host (rw is at back))
-  moved (Some value) is (inr (host, goes, back)) = record {
-    from = from;
-    to = to;
-    value = value;
-    becomes = is;
-    moved = λ same.
-        (let one : host ≡ astray.host =
-        same_Some _ _ (lookup_one_value specs accepted GuestToHost n _ _ goes astray.goes.becomes) in
-        astray.not_back (rw (is, same, one) at back));
-  }
+module _ (specs : List IdMap) (trip : Piece) (n : ℕ) (accepted : Accepted specs)
+    (returns : ComesBackAs specs n (value_in trip n)) where
+  pub astray-IsMoved : IsAstray specs n → IsMoved trip n
+  astray-IsMoved astray = moved (value_in trip n) refl returns where
+    moved : (value : Option ℕ) → value_in trip n ≡ value → ComesBackAs specs n (value_in trip n) → IsMoved trip n
+    moved value is (inl (forbidden, none)) =
+        let both : Some astray.host ≡ None =
+        lookup_one_value specs accepted GuestToHost n _ _ astray.goes.becomes forbidden in
+        absurd (cc)
+    moved None is (inr (host, goes, back)) = absurd (never_forbidden specs host (rw is at back))
+    moved (Some value) is (inr (host, goes, back)) = (
+      value,
+      is,
+      λ same.
+          (let one : host ≡ astray.host =
+          same_Some _ _ (lookup_one_value specs accepted GuestToHost n _ _ goes astray.goes.becomes) in
+          astray.not_back (rw (is, same, one) at back)),
+    )
 
-pub IsAstray-moved : (specs : List IdMap) (trip : Piece) (n : ℕ) → Accepted specs → ReturnsBy specs trip
-    → n < 4294967295 → IsMoved trip n → IsAstray specs n
-IsAstray-moved specs trip n accepted returns is_id moved = astray (returns n moved.from moved.to) where
-  astray : ComesBackAs specs n (value_in trip n) → IsAstray specs n
-  astray (inl (forbidden, none)) = search (rules, moved)
-  astray (inr (host, goes, back)) = record {
-    host = host;
-    goes = record { is_id = is_id; becomes = goes };
-    not_back = λ leads.
-        moved.moved
-        (same_Some _ _ (lookup_one_value specs accepted HostToGuest host _ _ (rw moved.becomes at back) leads));
-  }
-
--- ---- the loop over the ids
-
--- where no number of a round trip moves, its ids come back
-pub leads_back : (specs : List IdMap) (trip : Piece) (n host : ℕ) → Accepted specs → ReturnsBy specs trip → trip.first ≤ n
-    → n ≤ trip.last → ¬ IsMoved trip n → GoesTo specs n host → LeadsBack specs GuestToHost n host
-leads_back specs trip n host accepted returns from to not goes = back_by (value_in trip n) refl (returns n from to) where
-  back_by : (value : Option ℕ) → value_in trip n ≡ value → ComesBackAs specs n (value_in trip n)
-      → LeadsBack specs GuestToHost n host
-  back_by value is (inl (forbidden, none)) =
-      let both : Some host ≡ None = lookup_one_value specs accepted GuestToHost n _ _ goes.becomes forbidden in
-      absurd (cc)
-  back_by None is (inr (other, there, again)) = absurd (never_forbidden specs other (rw is at again))
-  back_by (Some value) is (inr (other, there, again)) =
-      let one : other ≡ host =
-      same_Some _ _ (lookup_one_value specs accepted GuestToHost n _ _ there goes.becomes) in
-      elim (cases_eq value n) [
-        | inl same ↦ rw (is, same, one) at again
-        | inr moved ↦ absurd (not (record { from = from; to = to; value = value; becomes = is; moved = moved }))
+  pub IsMoved-astray : n < 4294967295 → IsMoved trip n → IsAstray specs n
+  IsMoved-astray is_id (value, becomes, moved) =
+      elim returns [
+        | inl (forbidden, none) ↦ absurd (cc)
+        | inr (host, goes, back) ↦ record {
+          host = host;
+          goes = record { is_id = is_id; becomes = goes };
+          not_back = λ leads.
+              moved (same_Some _ _ (lookup_one_value specs accepted HostToGuest host _ _ (rw becomes at back) leads));
+        }
       ]
 
-pub ComeBackBelow-more : (specs : List IdMap) (trip : Piece) (next more : ℕ) → Accepted specs → ComeBackBelow specs next
-    → ReturnsBy specs trip → trip.first ≡ next → more ≤ trip.last + 1 → IsLeastIfAny (IsMoved trip) None
-    → ComeBackBelow specs more
-ComeBackBelow-more specs trip next more accepted so_far returns first end none n host below goes =
-    elim (cases_lt n next) [
-      | inl before ↦ so_far n host before goes
-      | inr after ↦ leads_back specs trip n host accepted returns (omega arith) (omega arith) (none n) goes
-    ]
-
--- the greatest number does not move
-IsMoved-below : (specs : List IdMap) (trip : Piece) (n : ℕ) → Accepted specs → ReturnsBy specs trip
-    → trip.last ≤ 4294967295 → IsMoved trip n → n < 4294967295
-IsMoved-below specs trip n accepted returns within moved = search rules
-
--- the least number that moves is the least id that is astray
-pub IsAstray-least : (specs : List IdMap) (trip : Piece) (next n : ℕ) → Accepted specs → ComeBackBelow specs next
-    → ReturnsBy specs trip → trip.first ≡ next → trip.last ≤ 4294967295 → IsLeastId (IsMoved trip) n
-    → IsLeastId (IsAstray specs) n
-IsAstray-least specs trip next n accepted so_far returns first within least = record {
-  is_bad = search (rules, IsAstray-moved, IsMoved-below);
-  none_before = λ m before astray.
-      elim (cases_lt m next) [
-        | inl below ↦ astray.not_back (so_far m astray.host below astray.goes)
-        | inr after ↦ least.none_before m before (IsMoved-astray specs trip m accepted returns (omega arith)
-            (omega (arith, least.is_bad.to)) astray)
-      ];
-}
-
-pub ComesBack-all : (specs : List IdMap) (next : ℕ) → ComeBackBelow specs next → 4294967295 ≤ next → ComesBack specs
-ComesBack-all specs next so_far end guest host goes =
-    so_far guest host (omega (arith, goes.is_id)) goes
+pub ComesBack-all : (specs : List IdMap) → Accepted specs → ((n : ℕ) → ¬ IsAstray specs n) → ComesBack specs
+ComesBack-all specs accepted none guest host goes =
+    LeadsBack-stable specs guest host accepted
+    (λ not. none guest (record { host = host; goes = goes; not_back = not }))

@@ -1,16 +1,14 @@
 -- What the parts of finding ids of the guest say. Only private functions cite these definitions.
-use Rattle.std.specs.Prelude.{◌≡◌, ◌⊎◌, ◌↔◌, ℕ, ◌-◌, ◌<◌, ◌≤◌, Bool, true, false, List, Contains, Some}
+use Rattle.std.specs.Prelude.{◌≡◌, ◌⊎◌, ◌↔◌, ℕ, ◌-◌, ◌≤◌, Bool, true, false, List, Some}
 use Rattle.virtiofs_id_audit.specs.IdAudit.{GoesInto, IsAstray, Hold}
 use Rattle.virtiofs_id_audit.specs.Mending.{IsBad}
-use Rattle.virtiofs_id_audit.specs.declared.extents.runs.Run.{Run}
 use Rattle.virtiofs_id_audit.specs.declared.extents.runs.Sought.{Sought}
 use Rattle.virtiofs_id_audit.specs.declared.extents.runs.Sought.TheVariants.{Into, OnlyAstray, Bad}
+use Rattle.virtiofs_id_audit.specs.declared.spans.Run.{Run}
 use Rattle.virtiofs_id_audit.specs.declared.spans.Span.{Span}
 use Rattle.virtiofs_map.specs.Mapping.{Becomes}
-use Rattle.virtiofs_map.specs.Pieces.{value_in}
 use Rattle.virtiofs_map.specs.declared.cmdline.IdMap.{IdMap}
 use Rattle.virtiofs_map.specs.declared.soft_idmap.entry.Direction.TheVariants.{HostToGuest}
-use Rattle.virtiofs_map.specs.declared.soft_idmap.piece.Piece.{Piece}
 
 -- the id of the guest is one of those that are sought
 abbrev pub IsSought : Sought → List IdMap → (ℕ → Type 0) → ℕ → Type 0
@@ -29,24 +27,8 @@ pub record IsRun (such : ℕ → Type 0) (first last : ℕ) (run : Run) : Type 0
   pub to : run.last ≤ last
   pub each : (n : ℕ) → first ≤ n → n ≤ run.last → (run.all ≡ true) ↔ such n
 
--- the first of the spans that end at the id or after it: those before it have no id from there on
-pub record IsFirstFrom (spans : List Span) (id : ℕ) (span : Span) : Type 0 where
-  pub listed : Contains spans span
-  pub some : span.first ≤ span.last
-  pub ends : id ≤ span.last
-  pub least : (n : ℕ) → id ≤ n → Hold spans n → span.first ≤ n
-
 -- where an id of the host becomes an id of the guest that is none of the starts, the one before it becomes the one before
 -- that
-abbrev pub AreStarts : List IdMap → List ℕ → Type 0
+abbrev pub AreStarts : List IdMap → List Span → Type 0
 AreStarts specs starts = (host guest : ℕ) → 1 ≤ host → host ≤ 4294967295 → Becomes specs HostToGuest host (Some guest)
-    → Contains starts guest ⊎ Becomes specs HostToGuest (host - 1) (Some (guest - 1))
-
--- the number of the piece becomes one of these
-abbrev pub BecomesOne : Piece → (ℕ → Type 0) → ℕ → Type 0
-BecomesOne piece hosts n = (host : ℕ) × (value_in piece n ≡ Some host) × hosts host
-
--- of the numbers below end, the others are those that are not such
-pub record AreOthers (such : ℕ → Type 0) (end : ℕ) (others : ℕ → Type 0) : Type 0 where
-  pub such_ones : (n : ℕ) → n < end → ¬ others n → such n
-  pub other_ones : (n : ℕ) → n < end → others n → ¬ such n
+    → Hold starts guest ⊎ Becomes specs HostToGuest (host - 1) (Some (guest - 1))

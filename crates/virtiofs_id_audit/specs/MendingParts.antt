@@ -1,7 +1,7 @@
 -- What the parts of mending say. Only private functions cite these definitions.
 use Rattle.std.specs.Prelude.{◌≡◌, ◌⊎◌, ◌↔◌, ℕ, ◌+◌, List, length, Contains, Option, None}
 use Rattle.std.specs.Prelude.{IsSomeAnd, IfSome, ⊤}
-use Rattle.virtiofs_id_audit.specs.IdAuditParts.{Has, Hold}
+use Rattle.virtiofs_id_audit.specs.IdAudit.{Has, Hold}
 use Rattle.virtiofs_id_audit.specs.Mending.{CoversSome, EndsWith}
 use Rattle.virtiofs_id_audit.specs.declared.spans.Span.{Span}
 use Rattle.virtiofs_map.specs.Build.{Accepted, HasSource, HasTarget}

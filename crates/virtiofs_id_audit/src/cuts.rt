@@ -1,8 +1,8 @@
 //! What is left of a span where ids are cut out of it.
-ghost use Rattle.std.specs.Prelude.{◌↔◌, ℕ, ◌≤◌, All, IfOk};
+ghost use Rattle.std.specs.Prelude.{◌↔◌, ◌⊎◌, ℕ, ◌+◌, ◌<◌, ◌≤◌, All, IfOk, OnOk};
 ghost use Rattle.std.specs.List.Sorted.{IsNonDecreasingBy};
-ghost use Rattle.virtiofs_id_audit.specs.IdAudit.{AreRuns};
-ghost use Rattle.virtiofs_id_audit.specs.IdAuditParts.{IsSpan, Has, Hold, AreApart};
+ghost use Rattle.virtiofs_id_audit.specs.IdAudit.{Has, Hold, AreRuns};
+ghost use Rattle.virtiofs_id_audit.specs.IdAuditParts.{RunsBelow};
 
 use crate::spans::Span;
 use std::alloc::{AllocError, Allocator};
@@ -10,8 +10,8 @@ use std::alloc::{AllocError, Allocator};
 /// Those of the spans that have an id of the whole.
 pub(crate) fn meeting(spans: &[Span], whole: Span) -> &[Span]
     requires order { whole.first ≤ whole.last }
-    requires apart { AreApart spans.now }
-    ensures apart { AreApart result.now }
+    requires runs { AreRuns spans.now }
+    ensures runs { AreRuns result.now }
     ensures meet { All (λ span. (whole.first ≤ span.last) × (span.first ≤ whole.last)) result.now }
     ensures hold { (id : ℕ) → Has whole id → Hold result.now id ↔ Hold spans.now id }
 {
@@ -22,6 +22,28 @@ pub(crate) fn meeting(spans: &[Span], whole: Span) -> &[Span]
     met
 }
 
+/// Adds the ids from `first` on, and below `end`, as a span, where there are some.
+pub(crate) fn push_between<A: Allocator>(
+    spans: &mut Vec<Span, A>,
+    first: u64,
+    end: u64,
+) -> Result<(), AllocError>
+    requires { end ≤ 4294967296 }
+    ensures runs { RunsBelow first spans.old.items → OnOk result ((next : ℕ) → first ≤ next
+        → end < next → RunsBelow next spans.new.items) }
+    ensures hold { OnOk result ((id : ℕ) → Hold spans.new.items id
+        ↔ (Hold spans.old.items id ⊎ ((first ≤ id) × (id < end)))) }
+{
+    if end <= first {
+        return Ok(());
+    }
+    spans.push(Span {
+        first: first as u32,
+        last: (end - 1) as u32,
+    })?;
+    Ok(())
+}
+
 /// The ids of the whole that no cut has, as spans. The cuts may overlap.
 pub(crate) fn without<A: Allocator>(
     alloc: A,
@@ -29,9 +51,8 @@ pub(crate) fn without<A: Allocator>(
     cuts: &[Span],
 ) -> Result<Vec<Span, A>, AllocError>
     requires order { whole.first ≤ whole.last }
-    requires spans { All IsSpan cuts.now }
+    requires some { All (λ cut. cut.first ≤ cut.last) cuts.now }
     requires firsts { IsNonDecreasingBy (λ cut. cut.first) cuts.now }
-    ensures apart { IfOk result (λ kept. AreApart kept.items) }
     ensures runs { IfOk result (λ kept. AreRuns kept.items) }
     ensures hold { IfOk result (λ kept. (id : ℕ)
         → Hold kept.items id ↔ (Has whole id × (¬ Hold cuts.now id))) }
@@ -40,20 +61,9 @@ pub(crate) fn without<A: Allocator>(
     let end = u64::from(whole.last) + 1;
     let mut next = u64::from(whole.first);
     for cut in cuts {
-        let until = end.min(u64::from(cut.first));
-        if next < until {
-            kept.push(Span {
-                first: next as u32,
-                last: (until - 1) as u32,
-            })?;
-        }
+        push_between(&mut kept, next, end.min(u64::from(cut.first)))?;
         next = next.max(u64::from(cut.last) + 1);
     }
-    if next < end {
-        kept.push(Span {
-            first: next as u32,
-            last: whole.last,
-        })?;
-    }
+    push_between(&mut kept, next, end)?;
     Ok(kept)
 }

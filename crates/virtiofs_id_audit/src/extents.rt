@@ -8,7 +8,7 @@ mod starts;
 
 use crate::spans::Span;
 pub(crate) use runs::Sought;
-pub(crate) use sought::ids_sought;
+pub(crate) use sought::{first_astray, ids_sought, least_into};
 use std::alloc::{AllocError, Allocator};
 use virtiofs_map::id_types::{GuestId, HostId};
 use virtiofs_map::soft_idmap::IdMap;

@@ -1,13 +1,14 @@
 //! Which ids of the host a guest reaches, and which it reaches again.
-ghost use Rattle.std.specs.Prelude.{◌↔◌, ℕ, ◌+◌, ◌≤◌, List, All, IfOk, OnOk};
+ghost use Rattle.std.specs.Prelude.{◌≡◌, ◌↔◌, ℕ, ◌+◌, ◌≤◌, List, All, IfOk, OnOk};
 ghost use Rattle.std.specs.List.Sorted.{IsNonDecreasingBy};
-ghost use Rattle.virtiofs_id_audit.specs.IdAuditParts.{IsSpan, Hold, AreInOrder, times, CountsGuests, AreImages, once_below};
+ghost use Rattle.virtiofs_id_audit.specs.IdAudit.{Hold, AreRuns};
+ghost use Rattle.virtiofs_id_audit.specs.IdAuditParts.{IsSpan, times, CountsGuests, AreImages};
 ghost use Rattle.virtiofs_map.specs.Build.{Accepted};
 ghost use Rattle.virtiofs_map.specs.Pieces.{IsNamed, IsPiece};
 ghost use Rattle.virtiofs_map.specs.declared.cmdline.IdMap.{IdMap as Specification};
 ghost use Rattle.virtiofs_map.specs.declared.soft_idmap.entry.Direction.TheVariants.{GuestToHost};
 
-use crate::cuts::without;
+use crate::cuts::{push_between, without};
 use crate::spans::Span;
 use std::alloc::{AllocError, Allocator};
 use virtiofs_map::id_types::{GuestId, HostId};
@@ -18,9 +19,7 @@ use virtiofs_map::soft_idmap::{Direction, IdMap, Piece};
 fn push_image<A: Allocator>(images: &mut Vec<Span, A>, piece: Piece) -> Result<(), AllocError>
     requires order { piece.first ≤ piece.last }
     requires named { IsNamed piece.becomes piece.first piece.last }
-    requires spans { All IsSpan images.old.items }
-    ensures spans { All IsSpan images.new.items }
-    ensures counts { OnOk result ((specs : List Specification) (low host : ℕ) → Accepted specs
+    ensures { OnOk result ((specs : List Specification) (low host : ℕ) → Accepted specs
         → IsPiece specs GuestToHost piece → low ≤ piece.first
         → CountsGuests specs low piece.first host (times images.old.items host)
         → CountsGuests specs low (piece.last + 1) host (times images.new.items host)) }
@@ -51,7 +50,7 @@ fn push_image<A: Allocator>(images: &mut Vec<Span, A>, piece: Piece) -> Result<(
     Ok(())
 }
 
-/// What the pieces of a map become, in the order of the first ids.
+/// What the pieces of a map become.
 pub(crate) fn images_of<
     Guest: GuestId<HostType = Host>,
     Host: HostId<GuestType = Guest>,
@@ -63,7 +62,6 @@ pub(crate) fn images_of<
     for piece in map.pieces(Direction::GuestToHost) {
         push_image(&mut images, piece)?;
     }
-    images.sort_unstable_by_key(|image| image.first);
     Ok(images)
 }
 
@@ -72,7 +70,8 @@ fn in_order<A: Allocator>(alloc: A, spans: &[Span]) -> Result<Vec<Span, A>, Allo
     ensures spans { IfOk result (λ sorted. All IsSpan sorted.items) }
     ensures firsts { IfOk result (λ sorted.
         IsNonDecreasingBy (λ span. span.first) sorted.items) }
-    ensures hold { IfOk result (λ sorted. (id : ℕ) → Hold sorted.items id ↔ Hold spans.now id) }
+    ensures times { IfOk result (λ sorted. (id : ℕ)
+        → times sorted.items id ≡ times spans.now id) }
 {
     let mut sorted = Vec::new(alloc);
     for span in spans {
@@ -85,32 +84,21 @@ fn in_order<A: Allocator>(alloc: A, spans: &[Span]) -> Result<Vec<Span, A>, Allo
     Ok(sorted)
 }
 
-/// The ids that images have again: an earlier one has them too, or they are below `end`, and so
-/// count as reached before.
-pub(crate) fn reached_again<A: Allocator>(
+/// The ids that two of the images have, or more.
+pub(crate) fn reached_again<A: Allocator + Copy>(
     alloc: A,
     images: &[Span],
-    end: u64,
 ) -> Result<Vec<Span, A>, AllocError>
-    requires spans { All IsSpan images.now }
-    requires firsts { IsNonDecreasingBy (λ image. image.first) images.now }
-    requires end { end ≤ 4294967296 }
-    ensures order { IfOk result (λ again. AreInOrder again.items) }
-    ensures again { IfOk result (λ again. (id : ℕ)
-        → Hold again.items id ↔ (2 ≤ times images.now id + once_below end id)) }
+    ensures { IfOk result (λ again. (id : ℕ)
+        → Hold again.items id ↔ (2 ≤ times images.now id)) }
 {
+    let sorted = in_order(alloc, images)?;
     let mut again = Vec::new(alloc);
-    let mut reached = end;
-    let mut last: u32 = 0;
-    for image in images {
-        if u64::from(image.first) < reached {
-            last = last.max(image.last.min((reached - 1) as u32));
-            again.push(Span {
-                first: image.first,
-                last,
-            })?;
-        }
-        reached = reached.max(u64::from(image.last) + 1);
+    let mut reached = 0u64;
+    for image in &sorted {
+        let end = u64::from(image.last) + 1;
+        push_between(&mut again, u64::from(image.first), reached.min(end))?;
+        reached = reached.max(end);
     }
     Ok(again)
 }
@@ -126,10 +114,11 @@ pub(crate) fn merged<A: Allocator + Copy>(
     alloc: A,
     spans: &[Span],
 ) -> Result<Vec<Span, A>, AllocError>
-    ensures order { IfOk result (λ merged. AreInOrder merged.items) }
+    ensures runs { IfOk result (λ merged. AreRuns merged.items) }
     ensures hold { IfOk result (λ merged. (id : ℕ) → Hold merged.items id ↔ Hold spans.now id) }
 {
     let sorted = in_order(alloc, spans)?;
     let free = without(alloc, EACH, &sorted)?;
-    without(alloc, EACH, &free)
+    let merged = without(alloc, EACH, &free)?;
+    Ok(merged)
 }

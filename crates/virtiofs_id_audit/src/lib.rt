@@ -44,11 +44,10 @@ mod spans;
 
 pub use answer::{Astray, IdAudit, Shared};
 pub use extents::{ids_astray, ids_into};
+use extents::{first_astray, least_into};
 use images::{images_of, merged, reached_again};
 pub use mending::mended;
-use round_trips::first_astray;
 pub use spans::Span;
-use spans::least_into;
 use std::alloc::{AllocError, Allocator};
 use virtiofs_map::id_types::{GuestId, HostId};
 use virtiofs_map::soft_idmap::{IdMap, id_of, number_of};
@@ -109,24 +108,23 @@ pub fn is_alone<
     ensures alone { IfOk result (λ audit. (audit ≡ Yes) ↔ IsAlone map.now) }
 {
     let images = images_of(alloc, map)?;
-    let twice = reached_again(alloc, &images, 0)?;
-    let Some(n) = least_into(map, 0, &twice) else {
+    let twice = reached_again(alloc, &images)?;
+    let Some(guest) = reaches_any(alloc, map, &twice)? else {
         return Ok(IdAudit::Yes);
     };
-    Ok(IdAudit::No(sharing(map, n)))
+    Ok(IdAudit::No(sharing(map, guest)))
 }
 
 /// With which id an id shares its id of the host.
 fn sharing<Guest: GuestId<HostType = Host>, Host: HostId<GuestType = Guest>, A: Allocator>(
     map: &IdMap<Guest, Host, A>,
-    n: u32,
+    guest: Guest,
 ) -> Shared<Guest, Host>
-    requires { IsLeastId (IsShared map.now) n }
-    ensures guest { Guest.number result.guest ≡ n }
+    requires { IsLeastId (IsShared map.now) (Guest.number guest) }
+    ensures guest { Guest.number result.guest ≡ Guest.number guest }
     ensures shares { SharedAs map.now
         (Guest.number result.guest) (Guest.number result.other) (Host.number result.host) }
 {
-    let guest: Guest = id_of(n);
     let Ok(host) = map.map_guest(guest) else {
         unreachable!();
     };
@@ -135,7 +133,7 @@ fn sharing<Guest: GuestId<HostType = Host>, Host: HostId<GuestType = Guest>, A: 
         first: id,
         last: id,
     }];
-    let Some(other) = least_into(map, n + 1, &only) else {
+    let Some(other) = least_into(map, number_of(guest) + 1, &only) else {
         unreachable!();
     };
     Shared {
@@ -187,7 +185,8 @@ pub fn reached<
         → Hold spans.items host ↔ ReachedBy map.now host) }
 {
     let images = images_of(alloc, map)?;
-    reached_again(alloc, &images, u64::from(u32::MAX) + 1)
+    let merged = merged(alloc, &images)?;
+    Ok(merged)
 }
 
 /// The least id that becomes an id of the host which one of the spans has; `None` where there is
@@ -230,10 +229,9 @@ pub fn ids_apart<
         (λ guest. Guest.number guest)) }
     ensures apart { IfOk result (λ audit. (audit ≡ Yes) ↔ AreIdsApart map.now other.now) }
 {
-    let images = images_of(alloc, other)?;
-    let reached = reached_again(alloc, &images, u64::from(u32::MAX) + 1)?;
-    let Some(n) = least_into(map, 0, &reached) else {
+    let ids = reached(alloc, other)?;
+    let Some(least) = reaches_any(alloc, map, &ids)? else {
         return Ok(IdAudit::Yes);
     };
-    Ok(IdAudit::No(id_of(n)))
+    Ok(IdAudit::No(least))
 }

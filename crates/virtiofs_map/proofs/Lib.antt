@@ -6,13 +6,12 @@ mod BuildLemmas
 mod LeU64Lemmas
 mod CutLemmas
 mod DecisionLemmas
-mod FrontLemmas
+mod SortedLemmas
 mod MapRuleLemmas
 mod MappingLawLemmas
 mod NamespaceLemmas
 mod NoZeroLemmas
 mod NumeralLemmas
-mod OrderLemmas
 mod PiecesLemmas
 mod PrintedLemmas
 mod ReadSoFarLemmas

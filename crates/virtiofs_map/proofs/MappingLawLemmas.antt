@@ -7,9 +7,9 @@ use Rattle.std.proofs.lemmas.List.Sorted.{All-permutation, Contains-permutation,
 use Rattle.std.proofs.lemmas.Bool.{cases_order}
 use Rattle.std.proofs.lemmas.Option.{same_Some}
 use Rattle.virtiofs_map.proofs.BuildLemmas.{built}
-use Rattle.virtiofs_map.proofs.OrderLemmas.{AllPairs-permutation}
+use Rattle.virtiofs_map.proofs.SortedLemmas.{apart-permutation}
 use Rattle.virtiofs_map.specs.Mapping.{entry_of, Covers, Maps, Becomes}
-use Rattle.virtiofs_map.specs.Build.{Accepted, HasSource, HasTarget, Meet}
+use Rattle.virtiofs_map.specs.Build.{Accepted, HasSource, HasTarget}
 use Rattle.virtiofs_map.specs.MappingLaws.{HasOneValue, IsOrderFree, KeepsGreatest, IsMappedBothWays, opposite}
 use Rattle.virtiofs_map.specs.MappingLaws.{LeadsBack}
 use Rattle.virtiofs_map.specs.declared.cmdline.IdMap.{IdMap}
@@ -85,9 +85,6 @@ Becomes-listed specs others direction n value to from (inl (spec, listed, maps))
 Becomes-listed specs others direction n value to from (inr (none, same)) =
     inr ((λ spec listed covers. none spec (from spec listed) covers), same)
 
-Meet-flips : (direction : Direction) (spec other : IdMap) → ¬ Meet spec other direction → ¬ Meet other spec direction
-Meet-flips direction spec other apart (n, first, second) = apart (n, second, first)
-
 pub IsOrderFree-accepted : (specs : List IdMap) → Accepted specs → IsOrderFree specs
 IsOrderFree-accepted specs accepted others permutation =
     let back : IsPermutation others specs = IsPermutation-sym specs others permutation in
@@ -102,8 +99,7 @@ IsOrderFree-accepted specs accepted others permutation =
         target =
             λ direction. All-permutation (λ (spec : IdMap). IfSome (entry_of spec direction) HasTarget) specs others
             permutation (accepted.target direction);
-        apart = λ direction. AllPairs-permutation (λ spec other. ¬ Meet spec other direction) (Meet-flips direction)
-            specs others permutation (accepted.apart direction);
+        apart = λ direction. apart-permutation specs others direction permutation (accepted.apart direction);
       },
       λ direction n value. (search (rules, Becomes-listed)),
     )

@@ -1,94 +1,63 @@
 -- The delimiters and fields of a namespace's range, and what is wrong with them.
 use Rattle.std.proofs.Common.{◌≡◌, ◌≢◌, inl, inr, ◌==◌, ℕ, ◌<◌, true, false, not, List, [], ◌∷◌, ◌++◌, length, take}
-use Rattle.std.proofs.Common.{All, Contains, slice_get, Option, Some, nat_eq, refl, sym, ap, ◌∙◌, subst, eq-eqb}
-use Rattle.std.proofs.Common.{append_assoc, arith, encode_utf8, chars, IsUtf8, eqb-true, length-append, rules}
+use Rattle.std.proofs.Common.{Contains, slice_get, Option, Some, nat_eq, refl, sym, ap, ◌∙◌, eq-eqb}
+use Rattle.std.proofs.Common.{arith, encode_utf8, chars, IsUtf8, eqb-true, length-append, rules}
 use Rattle.std.specs.Char.{IsScalar}
 use Rattle.std.specs.Option.{option_eq}
 use Rattle.std.proofs.Math.Seq.{take-append_seam}
 use Rattle.std.proofs.lemmas.Bool.{not-true, not-false, true≢false}
 use Rattle.std.proofs.lemmas.List.{nil_from_length, same_from_push}
 use Rattle.std.proofs.lemmas.List.Splits.{length-slice_split}
-use Rattle.std.proofs.lemmas.List.Elements.{All-nil, All-cons, All-contains}
 use Rattle.std.proofs.lemmas.Str.{chars-nil, chars_past_char, IsUtf8-encode, IsUtf8-take, IsCharBoundary-at_seam}
 use Rattle.virtiofs_map.specs.Alphanumeric.{is_alphanumeric}
 use Rattle.virtiofs_map.specs.Numeral.{IsNumeral}
 use Rattle.virtiofs_map.specs.Separator.{Lacks, split_at_each}
-use Rattle.virtiofs_map.specs.NamespaceParts.{IsThreeFields}
 use Rattle.virtiofs_map.specs.NamespaceText.{SaysNamespace, IsEnclosed, HasNoDelimiter, HasOtherField, NamespaceFault}
 use Rattle.virtiofs_map.specs.NamespaceText.{InvalidDelimiter, IncompleteMap, InvalidValue, HasNamespaceFault}
 use Rattle.virtiofs_map.proofs.NumeralLemmas.{IsNumeral-one}
+use Rattle.virtiofs_map.proofs.ZipLemmas.{AllZip-one, AllZip-length, AllZip-contains}
 use Rattle.virtiofs_map.proofs.SpecificationLemmas.{chars-push}
 use Rattle.virtiofs_map.proofs.SpecificationLemmas.{split_at_each-cut, split_at_each-last}
-
--- the three fields are those that the delimiter separates
-split_at_each-three : (d : ℕ) (inner x y z : List ℕ) → IsThreeFields d inner x y z
-    → split_at_each d inner ≡ x ∷ y ∷ z ∷ []
-split_at_each-three d inner x y z three =
-    let one : split_at_each d inner ≡ x ∷ split_at_each d (y ++ d ∷ z) =
-    split_at_each-cut d inner x (y ++ d ∷ z) three.whole three.first_free in
-    let two : split_at_each d (y ++ d ∷ z) ≡ y ∷ split_at_each d z =
-    split_at_each-cut d (y ++ d ∷ z) y z refl three.second_free in
-    let last : split_at_each d z ≡ z ∷ [] = split_at_each-last d z three.third_free in
-    cc
 
 -- the delimiter of a text, and what it encloses, are determined
 enclosed_same : (text : List ℕ) (d e : ℕ) (inner other : List ℕ) → IsEnclosed text d inner → IsEnclosed text e other
     → (d ≡ e) × (inner ≡ other)
 enclosed_same text d e inner other one two = search (rules, same_from_push)
 
--- the fields of a text that says a range, between its delimiters
-record IsRangeInside (text : List ℕ) (inside outside count : ℕ) : Type 0 where
-  delimiter : ℕ
-  inner : List ℕ
-  first : List ℕ
-  second : List ℕ
-  third : List ℕ
-  enclosed : IsEnclosed text delimiter inner
-  fields : split_at_each delimiter inner ≡ first ∷ second ∷ third ∷ []
-  first_says : IsNumeral first inside
-  second_says : IsNumeral second outside
-  third_says : IsNumeral third count
-
-range_inside : (text : List ℕ) (a b c : ℕ) → SaysNamespace text a b c → IsRangeInside text a b c
-range_inside text a b c says = search (rules, append_assoc, split_at_each-three)
-
 -- three numerals between delimiters say a range
 pub SaysNamespace-parts : (text : List ℕ) (d : ℕ) (inner x y z : List ℕ) (a b c : ℕ) → IsEnclosed text d inner
-    → IsThreeFields d inner x y z → IsNumeral x a → IsNumeral y b → IsNumeral z c → SaysNamespace text a b c
-SaysNamespace-parts text d inner x y z a b c enclosed three one two last = search (rules, append_assoc)
+    → split_at_each d inner ≡ x ∷ y ∷ z ∷ [] → IsNumeral x a → IsNumeral y b → IsNumeral z c → SaysNamespace text a b c
+SaysNamespace-parts text d inner x y z a b c enclosed three one two last = record {
+  delimiter = d;
+  inner = inner;
+  enclosed = enclosed;
+  fields = rw three (one, (two, (last, tt)));
+}
 
 -- one of the three fields is no numeral
 pub HasOtherField-parts : (text : List ℕ) (d : ℕ) (inner x y z field : List ℕ) → IsEnclosed text d inner
-    → IsThreeFields d inner x y z → Contains (x ∷ y ∷ z ∷ []) field → ((value : ℕ) → ¬ IsNumeral field value)
+    → split_at_each d inner ≡ x ∷ y ∷ z ∷ [] → Contains (x ∷ y ∷ z ∷ []) field → ((value : ℕ) → ¬ IsNumeral field value)
     → HasOtherField text
-HasOtherField-parts text d inner x y z field enclosed three here unread =
-    let fields : split_at_each d inner ≡ x ∷ y ∷ z ∷ [] = split_at_each-three d inner x y z three in
-    record {
-      delimiter = d;
-      inner = inner;
-      field = field;
-      enclosed = enclosed;
-      three = ap length fields;
-      here = subst (λ (fs : List (List ℕ)). Contains fs field) (sym fields) here;
-      unread = unread;
-    }
+HasOtherField-parts text d inner x y z field enclosed three here unread = record {
+  delimiter = d;
+  inner = inner;
+  field = field;
+  enclosed = enclosed;
+  three = ap length three;
+  here = rw three here;
+  unread = unread;
+}
 
 -- a text says one range at most
 pub SaysNamespace-one : (text : List ℕ) (a b c x y z : ℕ) → SaysNamespace text a b c → SaysNamespace text x y z
     → (a ≡ x) × (b ≡ y) × (c ≡ z)
 SaysNamespace-one text a b c x y z one two =
-    let p = range_inside text a b c one in
-    let q = range_inside text x y z two in
-    let (delimiter, inner) = enclosed_same text p.delimiter q.delimiter p.inner q.inner p.enclosed q.enclosed in
-    let same : split_at_each p.delimiter p.inner ≡ split_at_each q.delimiter q.inner = rw (delimiter, inner) refl in
-    let fields : p.first ∷ p.second ∷ p.third ∷ [] ≡ q.first ∷ q.second ∷ q.third ∷ [] = grind arith in
-    let first : p.first ≡ q.first = cc in
-    let second : p.second ≡ q.second = cc in
-    let third : p.third ≡ q.third = cc in (
-      IsNumeral-one q.first a x (subst (λ (cs : List ℕ). IsNumeral cs a) first p.first_says) q.first_says,
-      IsNumeral-one q.second b y (subst (λ (cs : List ℕ). IsNumeral cs b) second p.second_says) q.second_says,
-      IsNumeral-one q.third c z (subst (λ (cs : List ℕ). IsNumeral cs c) third p.third_says) q.third_says,
-    )
+    let (delimiter, inner) = enclosed_same text one.delimiter two.delimiter one.inner two.inner one.enclosed two.enclosed in
+    let same : split_at_each one.delimiter one.inner ≡ split_at_each two.delimiter two.inner = rw (delimiter, inner) refl in
+    let numbers : a ∷ b ∷ c ∷ [] ≡ x ∷ y ∷ z ∷ [] =
+    AllZip-one IsNumeral IsNumeral-one (split_at_each two.delimiter two.inner) (a ∷ b ∷ c ∷ []) (x ∷ y ∷ z ∷ [])
+    (rw same at one.fields) two.fields in
+    (cc, cc, cc)
 
 -- a text between delimiters has one
 delimiter_of_enclosed : (text : List ℕ) (d : ℕ) (inner : List ℕ) → IsEnclosed text d inner → ¬ HasNoDelimiter text
@@ -111,39 +80,6 @@ count_of_enclosed text d e inner other one two =
     let (delimiter, inside) = enclosed_same text d e inner other one two in
     rw (delimiter, inside) refl
 
--- where the fields of a range are numerals, none is no numeral
-fields_of_range : (text : List ℕ) (a b c : ℕ) → (p : IsRangeInside text a b c)
-    → All (λ field. (value : ℕ) × IsNumeral field value) (split_at_each p.delimiter p.inner)
-fields_of_range text a b c p =
-    let Read : List ℕ → Type 0 = λ field. (value : ℕ) × IsNumeral field value in
-    rw p.fields
-    (All-cons Read p.first (p.second ∷ p.third ∷ []) (a, p.first_says)
-    (search (rules, All-cons, All-nil)))
-
--- a text that says a range has no fault
-pub SaysNamespace-no_fault : (text : List ℕ) (a b c : ℕ) (e : NamespaceFault) → SaysNamespace text a b c
-    → ¬ HasNamespaceFault text e
-SaysNamespace-no_fault text a b c InvalidDelimiter says fault =
-    let p = range_inside text a b c says in
-    delimiter_of_enclosed text p.delimiter p.inner p.enclosed fault
-SaysNamespace-no_fault text a b c IncompleteMap says fault =
-    let p = range_inside text a b c says in
-    elim fault [
-      | inl empty ↦ some_of_enclosed text p.delimiter p.inner p.enclosed empty
-      | inr count ↦ count.other
-          (count_of_enclosed text count.delimiter p.delimiter count.inner p.inner count.enclosed p.enclosed
-          ∙ ap length p.fields)
-    ]
-SaysNamespace-no_fault text a b c InvalidValue says fault =
-    let p = range_inside text a b c says in
-    let (delimiter, inner) =
-    enclosed_same text fault.delimiter p.delimiter fault.inner p.inner fault.enclosed p.enclosed in
-    let here : Contains (split_at_each p.delimiter p.inner) fault.field =
-    grind arith in
-    let read : (value : ℕ) × IsNumeral fault.field value =
-    grind (arith, All-contains, fields_of_range) in
-    fault.unread read.0 read.1
-
 -- an empty text or another count of fields is no other fault
 apart_from_incomplete : (text : List ℕ) (d : ℕ) (inner : List ℕ) → IsEnclosed text d inner
     → length (split_at_each d inner) ≡ 3 → ¬ HasNamespaceFault text IncompleteMap
@@ -153,6 +89,23 @@ apart_from_incomplete text d inner enclosed three fault =
       | inr count ↦ count.other
           (count_of_enclosed text count.delimiter d count.inner inner count.enclosed enclosed ∙ three)
     ]
+
+-- a text that says a range has no fault
+pub SaysNamespace-no_fault : (text : List ℕ) (a b c : ℕ) (e : NamespaceFault) → SaysNamespace text a b c
+    → ¬ HasNamespaceFault text e
+SaysNamespace-no_fault text a b c InvalidDelimiter says fault =
+    delimiter_of_enclosed text says.delimiter says.inner says.enclosed fault
+SaysNamespace-no_fault text a b c IncompleteMap says fault =
+    apart_from_incomplete text says.delimiter says.inner says.enclosed
+    (AllZip-length IsNumeral (split_at_each says.delimiter says.inner) (a ∷ b ∷ c ∷ []) says.fields) fault
+SaysNamespace-no_fault text a b c InvalidValue says fault =
+    let (delimiter, inner) =
+    enclosed_same text fault.delimiter says.delimiter fault.inner says.inner fault.enclosed says.enclosed in
+    let here : Contains (split_at_each says.delimiter says.inner) fault.field =
+    grind arith in
+    let read = AllZip-contains IsNumeral (split_at_each says.delimiter says.inner) (a ∷ b ∷ c ∷ []) fault.field
+    says.fields here in
+    fault.unread read.0 read.1
 
 apart_from_delimiter : (text : List ℕ) → HasNoDelimiter text → ¬ HasNamespaceFault text IncompleteMap
 apart_from_delimiter text none fault =
@@ -223,9 +176,15 @@ pub two_fields : (d : ℕ) (inner x rest : List ℕ) → inner ≡ x ++ d ∷ re
 two_fields d inner x rest whole first none = search (rules, split_at_each-cut, split_at_each-last)
 
 -- where it is in it twice, it is three
-pub IsThreeFields-here : (d : ℕ) (inner x rest y z : List ℕ) → inner ≡ x ++ d ∷ rest → Lacks d x → rest ≡ y ++ d ∷ z
-    → Lacks d y → Lacks d z → IsThreeFields d inner x y z
-IsThreeFields-here d inner x rest y z whole first cut second third = search rules
+pub three_fields : (d : ℕ) (inner x rest y z : List ℕ) → inner ≡ x ++ d ∷ rest → Lacks d x → rest ≡ y ++ d ∷ z
+    → Lacks d y → Lacks d z → split_at_each d inner ≡ x ∷ y ∷ z ∷ []
+three_fields d inner x rest y z whole first cut second third =
+    rw (
+      split_at_each-cut d inner x rest whole first,
+      split_at_each-cut d rest y z cut second,
+      split_at_each-last d z third,
+    )
+    refl
 
 -- there is always a field
 length-split_at_each : (d : ℕ) (cs : List ℕ) → 0 < length (split_at_each d cs)
@@ -243,7 +202,7 @@ more_fields d inner x rest y z front back whole first cut second more third =
     (omega (arith, length-split_at_each d back))
 
 -- how many fields there are
-pub ruleset fields = (IsThreeFields-here, one_field, two_fields, more_fields)
+pub ruleset fields = (three_fields, one_field, two_fields, more_fields)
 
 -- what three fields say
 pub ruleset parts = (SaysNamespace-parts, HasOtherField-parts)

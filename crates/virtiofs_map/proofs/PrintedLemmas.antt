@@ -1,9 +1,9 @@
 -- The printed forms of a specification and of a range of a namespace are texts that say them.
 use Rattle.std.proofs.Common.{◌≡◌, ℕ, ◌^◌, ◌<◌, true, false, List, [], ◌∷◌, ◌++◌, All, flat_map, codes, refl, sym}
-use Rattle.std.proofs.Common.{subst, arith, decimal, chars, IsAscii, append-nil, rules, append_assoc}
+use Rattle.std.proofs.Common.{subst, arith, decimal, chars, IsAscii, append-nil, rules, append_assoc, ◌∙◌, ap}
 use Rattle.std.specs.List.{AllZip, list_all}
 use Rattle.std.proofs.lemmas.Fmt.{IsAscii-decimal}
-use Rattle.std.proofs.lemmas.List.Elements.{All-head, All-tail}
+use Rattle.std.proofs.lemmas.List.Elements.{All-head, All-tail, All-cons, All-nil}
 use Rattle.std.proofs.lemmas.List.Sums.{AllPass-from_list_all}
 use Rattle.std.proofs.lemmas.Str.{chars-IsAscii, IsAscii-append}
 use Rattle.std.proofs.lemmas.Str.Ascii.{IsAscii-nil, IsAscii-cons}
@@ -99,8 +99,29 @@ IsAscii-field front n ascii small = search (rules, IsAscii-append, decimal, code
 IsAscii-namespace_text : (a b c : ℕ) → a < 2 ^ 32 → b < 2 ^ 32 → c < 2 ^ 32 → IsAscii (namespace_text a b c)
 IsAscii-namespace_text a b c small_a small_b small_c = search (rules, codes, decimal, IsAscii-field, IsAscii-colon)
 
+-- what stands between the first colon and the last
+enclosed : (a b c : List ℕ)
+    → 58 ∷ (a ++ 58 ∷ (b ++ 58 ∷ (c ++ 58 ∷ []))) ≡ 58 ∷ (a ++ 58 ∷ (b ++ 58 ∷ c)) ++ 58 ∷ []
+enclosed a b c =
+    sym (ap (λ (cs : List ℕ). 58 ∷ cs) (append_assoc a (58 ∷ (b ++ 58 ∷ c)) (58 ∷ [])
+    ∙ ap (λ (cs : List ℕ). a ++ 58 ∷ cs) (append_assoc b (58 ∷ c) (58 ∷ []))))
+
 -- what a range is printed as says the range
 pub namespace_printed : (a b c : ℕ) → a < 2 ^ 32 → b < 2 ^ 32 → c < 2 ^ 32
     → SaysNamespace (chars (namespace_text a b c)) a b c
 namespace_printed a b c small_a small_b small_c =
-    grind (arith, chars-IsAscii, IsAscii-namespace_text, append_assoc, colon_delimits, IsNumeral-decimal, decimal_lacks_colon)
+    let whole : namespace_text a b c
+    ≡ 58 ∷ (decimal a ++ 58 ∷ (decimal b ++ 58 ∷ (decimal c ++ 58 ∷ []))) = simp append_assoc in
+    let rest : after_colons (b ∷ c ∷ []) ≡ 58 ∷ (decimal b ++ 58 ∷ decimal c) = simp append-nil in
+    let small : All (λ m. m < 2 ^ 32) (a ∷ b ∷ c ∷ []) = search (rules, All-cons, All-nil) in
+    record {
+      delimiter = 58;
+      inner = decimal a ++ 58 ∷ (decimal b ++ 58 ∷ decimal c);
+      enclosed = record {
+        whole = chars-IsAscii (namespace_text a b c) (IsAscii-namespace_text a b c small_a small_b small_c) ∙ whole
+            ∙ enclosed (decimal a) (decimal b) (decimal c);
+        delimits = colon_delimits;
+      };
+      fields = subst (λ (cs : List ℕ). AllZip IsNumeral (split_at_each 58 (decimal a ++ cs)) (a ∷ b ∷ c ∷ [])) rest
+          (AllZip-fields a (b ∷ c ∷ []) small);
+    }

@@ -2,7 +2,7 @@
 use Rattle.std.proofs.Common.{◌≡◌, ◌≢◌, ℕ, ◌+◌, ◌<◌, Bool, true, false, eqb, List, [], ◌∷◌, ◌++◌, length, Option, Some}
 use Rattle.std.proofs.Common.{None, IsSomeAnd, ◌⊎◌, inl, inr, refl, sym, ap, subst, ◌∙◌, arith, append_assoc}
 use Rattle.std.proofs.Common.{length-append, append-nil, rules}
-use Rattle.std.proofs.lemmas.Bool.Decides.{nat_tests}
+use Rattle.std.proofs.lemmas.List.{nil_from_length}
 use Rattle.std.proofs.lemmas.Grind.{flat_map-append}
 use Rattle.std.specs.List.{AllByRecursion}
 use Rattle.std.specs.Option.{option_map_or}
@@ -193,26 +193,12 @@ step text rest items more_items count number rule after next so_far is_number mo
 
 -- ---- the end
 
-expanded_none : (rules : List RuleAsWritten) → expanded rules ≡ [] → rules ≡ []
-expanded_none [] e = refl
-expanded_none (rule ∷ rules) e = grind arith
-
 -- the rest is empty, and some rules were read
 pub finish : (text rest : List ℕ) (items : List MappingRule) (count : ℕ) → ReadSoFar text rest items count → rest ≡ []
-    → items ≢ []
-    → SaysRules text items × CountsRules text count
+    → count ≢ 0 → SaysRules text items × CountsRules text count
 finish text rest items count so_far over some = search (rules, text_of_rules, trimmed_solid)
 
 -- the rest is empty, and no rule was read
 pub nothing : (text rest : List ℕ) (items : List MappingRule) (count : ℕ) → ReadSoFar text rest items count → rest ≡ []
-    → items ≡ [] → trimmed text ≡ []
-nothing text rest items count so_far over none = search (rules, expanded_none, nothing_after)
-
--- ---- whether a `Vec` is empty, as its items
-
-pub items_none : {A : Type 0} (xs : List A) (n : ℕ) (r : Bool) → length xs ≡ n → r ≡ eqb n 0 → r ≡ true → xs ≡ []
-items_none [] n r long e is_true = refl
-items_none (x ∷ xs) n r long e is_true = absurd (let f : eqb n 0 ≡ true = sym e ∙ is_true in grind (arith, nat_tests))
-
-pub items_some : {A : Type 0} (xs : List A) (n : ℕ) (r : Bool) → length xs ≡ n → r ≡ eqb n 0 → r ≡ false → xs ≢ []
-items_some xs n r long e is_false none = search (rules, nat_tests)
+    → count ≡ 0 → trimmed text ≡ []
+nothing text rest items count so_far over none = grind (arith, nil_from_length, nothing_after)

@@ -1,6 +1,6 @@
 -- Fields of rules, and the fault of a rule that is not whole.
 use Rattle.std.proofs.Common.{◌≡◌, ℕ, List, [], ◌∷◌, ◌++◌, Option, IsSomeAnd, ◌⊎◌, inl, inr, refl, sym, subst, codes}
-use Rattle.std.proofs.Common.{rules, arith}
+use Rattle.std.proofs.Common.{append_assoc, rules, arith}
 use Rattle.virtiofs_map.specs.Rule.{RuleType}
 use Rattle.virtiofs_map.specs.RuleText.{All, RuleHead, Typed, Map, Fields, Opens, head_fields, type_word}
 use Rattle.virtiofs_map.specs.RulesFault.{RuleFault, IsUnfinished, HasRuleFault}
@@ -45,18 +45,11 @@ unfinished_head head = record {
 }
 
 pub unfinished_key : (head : RuleHead) (key : List ℕ) → Lacks 0 key → IsUnfinished (head_fields head ++ key ∷ [])
-unfinished_key (Typed kind scope) key lacks = record {
-  rule = record { head = Typed kind scope; key = key; prepend = [] };
+unfinished_key head key lacks = record {
+  rule = record { head = head; key = key; prepend = [] };
   missing = [] ∷ [];
   more = λ e. (cc);
-  are = refl;
-  no_nul = (lacks, tt);
-}
-unfinished_key Map key lacks = record {
-  rule = record { head = Map; key = key; prepend = [] };
-  missing = [] ∷ [];
-  more = λ e. (cc);
-  are = refl;
+  are = append_assoc (head_fields head) (key ∷ []) ([] ∷ []);
   no_nul = (lacks, tt);
 }
 

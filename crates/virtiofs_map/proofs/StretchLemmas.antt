@@ -33,7 +33,8 @@ stored ranges at range here = search (rules, slice_get_within, get_or_from_slice
 
 pub numbers_at : (specs : List IdMap) (direction : Direction) (table : Table) (at : ℕ) (range : Entry)
     (has : HasRanges specs direction table) → slice_get has.ranges at ≡ Some range → HasNumbers range
-numbers_at specs direction table at range has here = search (rules, All-contains, stored)
+numbers_at specs direction table at range has here =
+    All-contains HasNumbers has.ranges range has.are.ordered.numbers (stored has.ranges at range here)
 
 -- ---- numbers that a range covers
 
@@ -51,7 +52,7 @@ IsStretch-covered specs direction table n at range piece has here covers made =
       becomes = λ k from to.
           (let value : value_in piece k ≡ target_of range k = made.value k (omega arith) (omega arith) in
           rw value
-          (Becomes-by_range specs direction has.ranges k range has.stores (stored has.ranges at range here)
+          (Becomes-by_range specs direction has.ranges k range has.are.whole (stored has.ranges at range here)
           (omega arith)));
     }
 
@@ -99,7 +100,7 @@ IsStretch-kept specs direction table n end piece has inside ends next first orde
   order = omega arith;
   within = within;
   named = rw kept tt;
-  becomes = λ k from to. rw kept (Becomes-itself specs direction has.ranges k has.stores (uncovered k from to));
+  becomes = λ k from to. rw kept (Becomes-itself specs direction has.ranges k has.are.whole (uncovered k from to));
 } where
   counted : length has.ranges ≡ table.count
   counted = has.stand.counted
@@ -108,9 +109,9 @@ IsStretch-kept specs direction table n end piece has inside ends next first orde
       → ¬ EntryCovers range k
   uncovered k from to range (j, below, here) covers =
       elim (cases_lt j end) [
-        | inl before ↦ before_covers has.ranges n end k j range has.ordered.ordered (omega (arith, counted))
+        | inl before ↦ before_covers has.ranges n end k j range has.are.ordered.ordered (omega (arith, counted))
             (λ last is. ends last (omega arith) is) (omega arith) before here covers
-        | inr above ↦ after_covers has.ranges end k j range has.ordered.ordered
+        | inr above ↦ after_covers has.ranges end k j range has.are.ordered.ordered
             (λ other is. omega (arith, next other is)) above below here covers
       ]
 
@@ -134,7 +135,7 @@ IsStretch-below specs direction table n index range piece has searches here abov
             | inl after ↦
                 let begins : first_of range ≤ n =
                 rw (get_or_from_slice_get has.ranges index range range here) at
-                ((searches has.ranges has.ordered has.stand).begins range after) in
+                ((searches has.ranges has.are.ordered has.stand).begins range after) in
                 absurd (omega arith)
             | inr none ↦ omega arith
           ]
@@ -162,4 +163,6 @@ pub next_above : (specs : List IdMap) (direction : Direction) (table : Table) (n
     (has : HasRanges specs direction table) → Searches table n index (index + 1)
     → slice_get has.ranges (index + 1) ≡ Some range → n < first_of range
 next_above specs direction table n index range has searches here =
-    search (rules, get_or_from_slice_get, slice_get_within)
+    rw (get_or_from_slice_get has.ranges (index + 1) range range here) at
+    ((searches has.ranges has.are.ordered has.stand).above (index + 1) range (omega arith)
+    (slice_get_within has.ranges (index + 1) range here))

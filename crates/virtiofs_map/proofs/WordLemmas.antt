@@ -1,10 +1,11 @@
 -- What the words of a map say of a number, by a search of its ranges.
-use Rattle.std.proofs.Common.{◌≡◌, inl, ℕ, List, Contains, Option, Some, IsSomeAnd, refl, rules, arith, inr, suc, zero}
+use Rattle.std.proofs.Common.{◌≡◌, inl, ℕ, List, Contains, Option, Some, IsSomeAnd, refl, rules, arith, inr, suc, zero, IsPermutation}
 use Rattle.std.proofs.Common.{◌+◌, ◌/◌, ◌^◌, ◌<◌, ◌≤◌, length, get_or, AllPairs, slice_get, pow-suc, [], ◌-◌}
 use Rattle.std.proofs.Common.{slice_index, All, None, min, subst, sym, ◌∙◌}
-use Rattle.std.proofs.lemmas.List.Elements.{All-contains, Contains-get_or}
-use Rattle.virtiofs_map.specs.Mapping.{EntryCovers, target_of, Becomes, first_of}
-use Rattle.virtiofs_map.specs.RangeParts.{IsOfOne, Stores, Precedes, Searched, HasDigitsFor, HasNumbers, AreRanges}
+use Rattle.std.proofs.lemmas.List.Elements.{Contains-get_or}
+use Rattle.std.proofs.lemmas.List.Sorted.{Contains-permutation, IsPermutation-sym, length_permutation}
+use Rattle.virtiofs_map.specs.Mapping.{entry_of, EntryCovers, target_of, Becomes, first_of}
+use Rattle.virtiofs_map.specs.RangeParts.{entries, Precedes, Searched, HasDigitsFor, HasNumbers, AreRanges}
 use Rattle.virtiofs_map.specs.declared.cmdline.IdMap.{IdMap}
 use Rattle.virtiofs_map.specs.declared.soft_idmap.entry.Direction.{Direction}
 use Rattle.virtiofs_map.specs.declared.soft_idmap.entry.Entry.{Entry}
@@ -20,6 +21,7 @@ use Rattle.virtiofs_map.specs.WordParts.{Table, IsAt, HasRanges, words_lent, Sea
 use Rattle.virtiofs_map.specs.declared.soft_idmap.entry.Entry.TheVariants.{Fail}
 use Rattle.virtiofs_map.specs.declared.soft_idmap.row.Answer.{Answer}
 use Rattle.virtiofs_map.proofs.MappingLawLemmas.{HasOneValue-accepted, LeadsBack-mapped}
+use Rattle.virtiofs_map.proofs.SortedLemmas.{entries-from, entries-each, length-entries}
 use Rattle.virtiofs_map.specs.declared.soft_idmap.row.Answer.TheVariants as answers
 
 -- there is an entry of which this holds
@@ -33,16 +35,26 @@ found_entry o P h = grind arith
 
 -- no range covers the number, so no specification does
 pub Becomes-itself : (specs : List IdMap) (direction : Direction) (ranges : List Entry) (n : ℕ)
-    → Stores specs direction ranges → ((range : Entry) → Contains ranges range → ¬ EntryCovers range n)
-    → Becomes specs direction n (Some n)
-Becomes-itself specs direction ranges n stores none = search (rules, found_entry)
+    → IsPermutation (entries specs direction) ranges
+    → ((range : Entry) → Contains ranges range → ¬ EntryCovers range n) → Becomes specs direction n (Some n)
+Becomes-itself specs direction ranges n whole none =
+    inr (
+      (λ spec listed covers.
+          let found = found_entry (entry_of spec direction) (λ entry. EntryCovers entry n) covers in
+          none found.entry
+          (Contains-permutation (entries specs direction) ranges found.entry whole
+          (entries-each specs direction spec found.entry listed found.is (omega (arith, found.holds)))) found.holds),
+      refl,
+    )
 
 -- a range that covers it is that of a specification
 pub Becomes-by_range : (specs : List IdMap) (direction : Direction) (ranges : List Entry) (n : ℕ) (range : Entry)
-    → Stores specs direction ranges → Contains ranges range → EntryCovers range n
+    → IsPermutation (entries specs direction) ranges → Contains ranges range → EntryCovers range n
     → Becomes specs direction n (target_of range n)
-Becomes-by_range specs direction ranges n range stores stored covers =
-    let (spec, listed, is) = All-contains (IsOfOne specs direction) ranges range stores.from stored in
+Becomes-by_range specs direction ranges n range whole stored covers =
+    let back = IsPermutation-sym (entries specs direction) ranges whole in
+    let (spec, listed, is, _) = entries-from specs direction range
+    (Contains-permutation ranges (entries specs direction) range back stored) in
     inl (spec, listed, rw is (covers, refl))
 
 -- ---- digits
@@ -182,7 +194,12 @@ Searches-turn table n index size half middle next searches within some halved is
 -- there is no range
 pub SaysIn-none : (specs : List IdMap) (direction : Direction) (table : Table) (n : ℕ)
     → HasRanges specs direction table → table.count ≡ 0 → SaysIn specs direction n (answers.Becomes n)
-SaysIn-none specs direction table n has none = search (rules, Becomes-itself)
+SaysIn-none specs direction table n has none = (
+  Some n,
+  Becomes-itself specs direction has.ranges n has.are.whole
+      (λ range (k, below, here) covers. absurd (omega (arith, has.stand.counted))),
+  refl,
+)
 
 -- the range at an index decides, where no other one covers the number
 says_by : (specs : List IdMap) (direction : Direction) (table : Table) (n at : ℕ) (answer : Answer)
@@ -198,13 +215,13 @@ says_by specs direction table n at answer has inside says alone =
     let range : Entry = get_or has.ranges at no_range in
     let here : slice_get has.ranges at ≡ Some range = slice_get-get_or has.ranges at no_range inside' in
     let stored : Contains has.ranges range = Contains-get_or has.ranges at no_range inside' in
-    let numbers : HasNumbers range = has.ordered.numbers at no_range inside' in
-    let target : HasTarget range = has.ordered.target at no_range inside' in
+    let numbers : HasNumbers range = has.are.ordered.numbers at no_range inside' in
+    let target : HasTarget range = has.are.ordered.target at no_range inside' in
     elim (says range (has.stand.each at range here) numbers target) [
       | inl (covers, value) ↦ search (rules, Becomes-by_range)
       | inr (beyond, value) ↦ (
         Some n,
-        Becomes-itself specs direction has.ranges n has.stores (λ other stored' covers.
+        Becomes-itself specs direction has.ranges n has.are.whole (λ other stored' covers.
             let same : range ≡ other = alone range other here stored' covers in
             beyond (rw same covers)),
         value,
@@ -220,7 +237,7 @@ SaysIn-last specs direction table n index answer has searches inside says =
     says_by specs direction table n index answer has inside says (λ range other here stored covers.
     same_Some _ _
     (sym here
-    ∙ Searched-finds has.ranges n index other has.ordered.ordered (searches has.ranges has.ordered has.stand) stored
+    ∙ Searched-finds has.ranges n index other has.are.ordered.ordered (searches has.ranges has.are.ordered has.stand) stored
     covers))
 
 -- ---- no specification
@@ -228,7 +245,8 @@ SaysIn-last specs direction table n index answer has searches inside says =
 -- they are as many as specifications act
 pub HasRanges-count : (specs : List IdMap) (direction : Direction) (table : Table) → HasRanges specs direction table
     → table.count ≡ acting specs direction
-HasRanges-count specs direction table has = sym has.stand.counted ∙ has.stores.counted
+HasRanges-count specs direction table has = sym has.stand.counted
+    ∙ length_permutation (entries specs direction) has.ranges has.are.whole ∙ length-entries specs direction
 
 -- what a map without specifications lends
 pub IsImage-empty : IsImage [] (words_lent [])
@@ -275,8 +293,8 @@ count_below ranges (suc k) are counted =
     omega (arith, own.some, own.source)
 
 -- ranges are fewer than a word can count
-pub AreRanges-count : (ranges : List Entry) → AreRanges ranges → length ranges < 4294967296
-AreRanges-count ranges are = count_below ranges (length ranges) are refl
+pub few_ranges : (ranges : List Entry) → AreRanges ranges → length ranges < 4294967296
+few_ranges ranges are = count_below ranges (length ranges) are refl
 
 -- ---- what an answer says
 
@@ -312,8 +330,8 @@ pub ruleset what_is_said = (SaysIn-becomes, SaysIn-fails, SaysIn-no_image)
 -- what a map lends
 pub ruleset what_is_lent = (IsImage-empty, IsImage-lent, HasRanges-count)
 
--- what a lookup says, and its steps
-pub ruleset looked_up = (SaysIn-none, SaysIn-last, CountsBetween-none, CountsBetween-some)
+-- the steps of a lookup
+pub ruleset looked_up = (CountsBetween-none, CountsBetween-some)
 
 -- how a search begins and goes on
 pub ruleset searched = (HasDigitsFor-start, HasDigitsFor-less, Searches-start, Searches-turn, CountsBetween-one)

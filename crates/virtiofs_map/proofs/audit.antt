@@ -1,10 +1,9 @@
-mod AuditCutLemmas
+mod AuditFaultLemmas
 mod AuditGatheredLemmas
 pub mod AuditLeastLemmas
 mod AuditLostLemmas
 mod AuditOrderLemmas
 mod AuditPassLemmas
-mod AuditReachLemmas
 mod AuditSeenLemmas
 mod AuditSharedLemmas
 mod AuditStrayLemmas

@@ -3,7 +3,6 @@ mod AnsweredListLemmas
 mod DecidingLemmas
 mod FirstNameLemmas
 mod FittingLemmas
-mod KeptRuleLemmas
 mod ListingLemmas
 mod MadeRuleLemmas
 mod NodeCountLemmas

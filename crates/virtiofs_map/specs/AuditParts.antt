@@ -1,17 +1,17 @@
 -- What the private functions of an audit say: what is asked about a name, which names are tried, and what was found.
 -- Only they cite these definitions.
-use Rattle.std.specs.Prelude.{◌≡◌, ◌⊎◌, Contains, ℕ, ◌+◌, ◌*◌, ◌<◌, ◌≤◌, Bool, true, false, List, [], ◌∷◌, ◌++◌}
-use Rattle.std.specs.Prelude.{length, Option}
+use Rattle.std.specs.Prelude.{◌≡◌, ◌≢◌, ◌⊎◌, Contains, ℕ, ◌+◌, ◌*◌, ◌<◌, ◌≤◌, Bool, true, false, List, [], ◌∷◌, ◌++◌}
+use Rattle.std.specs.Prelude.{length, drop, Option}
 use Rattle.std.specs.Prelude.{Some, None, is_none, option_and_then, count_by}
 use Rattle.std.specs.Cmp.Lexicographic.{slice_cmp}
 use Rattle.std.specs.List.{filter_map}
-use Rattle.std.specs.List.Sorted.{IsPermutation}
 use Rattle.std.specs.Option.{option_map_or}
 use Rattle.std.specs.Ordering.{nat_cmp, is_lt}
-use Rattle.virtiofs_map.specs.Audit.{IsBefore, HasFault, Within}
+use Rattle.virtiofs_map.specs.Audit.{IsBefore, HasFault, Reached, Within}
 use Rattle.virtiofs_map.specs.FirstRule.{acts}
 use Rattle.virtiofs_map.specs.GatheredParts.{added_prefix_of, part_of}
-use Rattle.virtiofs_map.specs.Names.{deciding}
+use Rattle.virtiofs_map.specs.MapRule.{IsName}
+use Rattle.virtiofs_map.specs.Names.{IsHidden, Passes, client_answer, deciding, host_answer}
 use Rattle.virtiofs_map.specs.NamesImage.{IsMapOf}
 use Rattle.virtiofs_map.specs.Rule.{MappingRule}
 use Rattle.virtiofs_map.specs.declared.audit.answer.Audit.{Audit}
@@ -19,7 +19,6 @@ use Rattle.virtiofs_map.specs.declared.audit.answer.Audit.TheVariants.{Yes, No}
 use Rattle.virtiofs_map.specs.declared.audit.asking.NameFault.{NameFault}
 use Rattle.virtiofs_map.specs.declared.audit.asking.NameFault.TheVariants.{Lost, Stray, Seen, Shared}
 use Rattle.virtiofs_map.specs.declared.audit.gathered.Part.{Part}
-use Rattle.virtiofs_map.specs.declared.audit.gathered.Part.TheVariants.{Added}
 use Rattle.virtiofs_map.specs.declared.audit.question.Question.{Question}
 use Rattle.virtiofs_map.specs.declared.xattrmap.scopes.Side.{Side}
 use Rattle.virtiofs_map.specs.declared.xattrmap.scopes.Side.TheVariants.{Client, Server}
@@ -34,14 +33,17 @@ added_prefix side rules name = option_and_then added_prefix_of (deciding side ru
 abbrev pub is_hidden : List MappingRule → List ℕ → Bool
 is_hidden rules host = option_map_or (λ rule. is_none (added_prefix_of rule)) (deciding Server rules host) false
 
--- a name passes as the host name, with that put before it
-abbrev pub PassesWith : List MappingRule → List ℕ → List ℕ → Type 0
-PassesWith rules host added = (name : List ℕ) × (added_prefix Client rules name ≡ Some added) × (host ≡ added ++ name)
+-- what is left of the host name behind the first `at` bytes passes as the host name
+abbrev pub PutsAt : List MappingRule → List ℕ → ℕ → Type 0
+PutsAt rules host at = client_answer rules (drop at host) ≡ Passes host
+
+-- the server's rules take so many bytes off the host name
+abbrev pub CutsAt : List MappingRule → List ℕ → ℕ → Type 0
+CutsAt rules host at = (cut : List ℕ) × (added_prefix Server rules host ≡ Some cut) × (length cut ≡ at)
 
 -- the server's rules take just that off a name, from one that begins with it; or it is nothing
 abbrev pub IsCut : List MappingRule → List ℕ → Type 0
-IsCut rules cut =
-    (cut ≡ []) ⊎ ((found : List ℕ) × (added_prefix Server rules cut ≡ Some found) × (length found ≡ length cut))
+IsCut rules cut = (cut ≡ []) ⊎ CutsAt rules cut (length cut)
 
 -- ---- what is gathered from the rules
 
@@ -64,14 +66,20 @@ side_of Stray = Server
 side_of Seen = Server
 side_of Shared = Client
 
--- what is asked is asked of maps of these rules; if need be, what the others put before names is known
-pub record IsAskedOf {A : Type 0} (question : Question A) (rules others : List MappingRule) : Type 0 where
+-- what is asked is asked of maps of these rules
+pub record IsAskedOf (question : Question) (rules others : List MappingRule) : Type 0 where
   pub map : IsMapOf rules question.map
   pub other : IsMapOf (other_rules question.fault rules others) question.other
-  pub reach : question.fault ≡ Shared → IsPermutation (parts (Added Client) others) question.all_added.items
+
+-- a name of the guest has the fault, if it passes as that host name, with so many bytes put before it
+abbrev pub FailsAs : NameFault → List MappingRule → List MappingRule → List ℕ → ℕ → Type 0
+FailsAs Lost rules others host added = (added < length host) × (¬ CutsAt rules host added)
+FailsAs Stray rules others host added = ⊥
+FailsAs Seen rules others host added = IsName host × (host ≢ []) × (host_answer others host ≢ IsHidden)
+FailsAs Shared rules others host added = Reached others host
 
 -- the name is one that is asked for
-abbrev pub IsBad : {A : Type 0} → Question A → List MappingRule → List MappingRule → List ℕ → Type 0
+abbrev pub IsBad : Question → List MappingRule → List MappingRule → List ℕ → Type 0
 IsBad question rules others = Within question.beginning.bytes.now (HasFault question.fault rules others)
 
 -- ---- what was found
@@ -112,9 +120,10 @@ pub record Tries (Bad names : List ℕ → Type 0) (most : ℕ) (old new : Tried
 abbrev pub LedTo : List (List ℕ) → (List ℕ → List ℕ → Type 0) → List ℕ → Type 0
 LedTo xs leads name = (x : List ℕ) × Contains xs x × leads x name
 
--- the name is what is left of a pattern after `added`
-abbrev pub IsRest : List (List ℕ) → List ℕ → List ℕ → Type 0
-IsRest patterns added = LedTo patterns (λ pattern name. pattern ≡ added ++ name)
+-- the name is what is left of a pattern after `added`, and passes as it
+abbrev pub IsLiveRest : List MappingRule → List (List ℕ) → List ℕ → List ℕ → Type 0
+IsLiveRest rules patterns added =
+    LedTo patterns (λ pattern name. (pattern ≡ added ++ name) × (client_answer rules name ≡ Passes pattern))
 
 -- the name is a key after `cut`
 abbrev pub IsWhole : List (List ℕ) → List ℕ → List ℕ → Type 0
@@ -125,9 +134,10 @@ abbrev pub IsLiveWhole : List MappingRule → List (List ℕ) → List ℕ → L
 IsLiveWhole rules keys cut name = IsCut rules cut × IsWhole keys cut name
 
 -- the key of a rule for the client; or, of a pattern of the other map that starts with what a rule puts before a name,
--- the rest
-abbrev pub IsGuestName : List (List ℕ) → List (List ℕ) → List (List ℕ) → List ℕ → Type 0
-IsGuestName keys all_added patterns name = Contains keys name ⊎ LedTo all_added (IsRest patterns) name
+-- the rest, if it passes as that pattern
+abbrev pub IsGuestName : List MappingRule → List (List ℕ) → List (List ℕ) → List (List ℕ) → List ℕ → Type 0
+IsGuestName rules keys all_added patterns name =
+    Contains keys name ⊎ LedTo all_added (IsLiveRest rules patterns) name
 
 -- the prepend of a rule for the server; or what such a rule removes, followed by the key of a rule for the client
 abbrev pub IsHostName : List MappingRule → List (List ℕ) → List (List ℕ) → List (List ℕ) → List ℕ → Type 0

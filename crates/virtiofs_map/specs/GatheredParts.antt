@@ -1,6 +1,6 @@
 -- What an audit takes from the rules of a map, and the order in which it goes over that. Only the private functions of
 -- an audit, and their proofs, cite these definitions.
-use Rattle.std.specs.Prelude.{◌≡◌, Contains, ℕ, ◌-◌, ◌<◌, ◌≤◌, if◌then◌else◌, List, [], ◌++◌, length, Option, Some}
+use Rattle.std.specs.Prelude.{◌≡◌, ℕ, ◌-◌, ◌<◌, ◌≤◌, if◌then◌else◌, List, [], ◌++◌, length, Option, Some}
 use Rattle.std.specs.Prelude.{None, option_map, slice_get}
 use Rattle.std.specs.Cmp.Lexicographic.{slice_cmp}
 use Rattle.std.specs.List.Sorted.{IsSorted}
@@ -52,13 +52,3 @@ pub record CountsBefore (names : List (List ℕ)) (bytes : List ℕ) (count : �
       → IsBefore name bytes
   pub after : (place : ℕ) (name : List ℕ) → count ≤ place → slice_get names place ≡ Some name
       → ¬ IsBefore name bytes
-
--- it does not come after the bytes, and of the names that do not none comes after it
-pub record IsLast (names : List (List ℕ)) (bytes last : List ℕ) : Type 0 where
-  pub up_to : ¬ IsBefore bytes last
-  pub latest : (name : List ℕ) → Contains names name → ¬ IsBefore bytes name → ¬ IsBefore last name
-
--- the last of the names that do not come after the bytes; none if all come after them
-abbrev pub IsLastUpTo : List (List ℕ) → List ℕ → Option (List ℕ) → Type 0
-IsLastUpTo names bytes None = (name : List ℕ) → Contains names name → IsBefore bytes name
-IsLastUpTo names bytes (Some last) = IsLast names bytes last

@@ -1,6 +1,6 @@
 -- The numbers by which patterns are compared. Only private functions cite these definitions.
 use Rattle.std.specs.Int.{w64, from_be_bytes}
-use Rattle.std.specs.Prelude.{◌≡◌, ℕ, ◌<◌, List, ◌∷◌, drop, slice_index}
+use Rattle.std.specs.Prelude.{ℕ, ◌<◌, List, ◌∷◌, slice_index}
 use Rattle.virtiofs_map.specs.declared.xattrmap.trie.patterns.Pattern.{Pattern}
 
 -- the number of the first eight bytes, the first one the highest; zeros stand for those that are missing
@@ -9,12 +9,6 @@ word_of bytes = from_be_bytes w64 bytes
 
 abbrev pub AreBytes : List ℕ → Type 0
 AreBytes bytes = (k : ℕ) → slice_index bytes k < 256
-
--- the numbers of a pattern are those of its first bytes and of the next ones
-pub record IsKeyed (one : Pattern) : Type 0 where
-  pub first : one.first ≡ word_of one.bytes.now
-  pub second : one.second ≡ word_of (drop 8 one.bytes.now)
-  pub bytes : AreBytes one.bytes.now
 
 -- what a pattern is compared by
 abbrev pub key_of : Pattern → List ℕ

@@ -21,7 +21,6 @@ pub mod MappingLaws
 pub mod Names
 pub mod NamesImage
 pub mod NamesImageParts
-pub mod NamespaceParts
 pub mod NamespaceText
 pub mod Numeral
 pub mod PatternTrie

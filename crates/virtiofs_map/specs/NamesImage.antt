@@ -1,8 +1,8 @@
 -- An image of a map of names: bytes that are written once, and then only read.
-use Rattle.std.specs.Prelude.{◌≡◌, ◌≢◌, ◌⊎◌, ℕ, ◌+◌, ◌-◌, ◌*◌, ◌<◌, ◌≤◌, if◌then◌else◌, List, [], ◌∷◌, ◌++◌, length}
-use Rattle.std.specs.Prelude.{take, drop, All, Option, Some, None, IsSomeAnd}
-use Rattle.virtiofs_map.specs.NodeParts.{AreSpans, IsTrieIn, node_count}
-use Rattle.virtiofs_map.specs.LeU64Parts.{le_u64_at, le_u64_bytes}
+use Rattle.std.specs.Prelude.{◌≡◌, ◌≢◌, ◌⊎◌, ℕ, ◌+◌, ◌-◌, ◌*◌, ◌/◌, ◌%◌, ◌<◌, ◌≤◌, if◌then◌else◌, List, [], ◌∷◌, ◌++◌}
+use Rattle.std.specs.Prelude.{length, take, drop, slice_get, All, Option, Some, None, IsSomeAnd}
+use Rattle.virtiofs_map.specs.NodeParts.{IsSpan, IsTrieIn, node_count}
+use Rattle.virtiofs_map.specs.LeU64Parts.{le_u64_at}
 use Rattle.virtiofs_map.specs.Names.{deciding}
 use Rattle.virtiofs_map.specs.Rule.{MappingRule, HasNoZero, type_number}
 use Rattle.virtiofs_map.specs.Rule as types
@@ -47,22 +47,25 @@ pub record HasPart (image : List ℕ) (which : ℕ) : Type 0 where
 abbrev pub acts_number : MappingRule → ℕ
 acts_number rule = type_number rule.kind + 4 * (if rule.client then 1 else 0) + 8 * (if rule.server then 1 else 0)
 
--- the 24 bytes of a rule whose patterns stand there
-unfoldable pub rule_row : MappingRule → Span → List ℕ
-rule_row rule span =
-    le_u64_bytes (span.key + 281474976710656 * acts_number rule) ++ le_u64_bytes span.prepend ++ le_u64_bytes span.end
+-- where the patterns of the rule of a row stand
+abbrev pub span_of : List ℕ → Span
+span_of row =
+    record { key = le_u64_at row 0 % 281474976710656; prepend = le_u64_at row 8; end = le_u64_at row 16 }
 
--- the rows of rules
-abbrev pub rule_rows : List MappingRule → List Span → List ℕ
-rule_rows [] spans = []
-rule_rows (rule ∷ rules) [] = []
-rule_rows (rule ∷ rules) (span ∷ spans) = rule_row rule span ++ rule_rows rules spans
+-- the row is that of the rule, whose patterns stand among the bytes
+pub record IsRuleRow (bytes : List ℕ) (rule : MappingRule) (row : List ℕ) : Type 0 where
+  pub acts : le_u64_at row 0 / 281474976710656 ≡ acts_number rule
+  pub is : IsSpan bytes rule (span_of row)
+
+-- the row at a place
+abbrev pub row_at : List ℕ → ℕ → List ℕ
+row_at rows at = take 24 (drop (at * 24) rows)
 
 -- the rows are those of the rules, whose patterns stand among the bytes
 pub record AreRuleRows (rules : List MappingRule) (rows bytes : List ℕ) : Type 0 where
-  pub spans : List Span
-  pub stand : AreSpans bytes rules spans
-  pub are : rows ≡ rule_rows rules spans
+  pub long : length rows ≡ 24 * length rules
+  pub each : (place : ℕ) (rule : MappingRule) → slice_get rules place ≡ Some rule
+      → IsRuleRow bytes rule (row_at rows place)
   -- fewer than 2^48 bytes, so that a position fits into 48 bits
   pub few : length bytes < 281474976710656
 

@@ -6,13 +6,13 @@ use Rattle.std.specs.List.{flat_map}
 use Rattle.virtiofs_map.specs.LeU64Parts.{le_u64_at, le_u64_bytes}
 use Rattle.virtiofs_map.specs.Names.{HostAnswer, IsListed, IsHidden, IsUndecided, host_answer, names}
 use Rattle.virtiofs_map.specs.NamesImage.{IsImage, IsMapOf, image_kind, image_length, longest_image, part, part_end}
-use Rattle.virtiofs_map.specs.NamesImage.{part_start}
+use Rattle.virtiofs_map.specs.NamesImage.{part_start, span_of}
 use Rattle.virtiofs_map.specs.NodeParts.{IsTrieIn}
 use Rattle.virtiofs_map.specs.Rule.{MappingRule, RuleType, Prefix, Okay, Bad, Unsupported}
 use Rattle.virtiofs_map.specs.RuleParts.{holds}
 use Rattle.virtiofs_map.specs.declared.xattrmap.image.write.Places.{Places}
 use Rattle.virtiofs_map.specs.declared.xattrmap.listed.Seen.{Seen}
-use Rattle.virtiofs_map.specs.declared.xattrmap.listed.Seen.TheVariants.{NoMap, Undecided, Hidden, Listed}
+use Rattle.virtiofs_map.specs.declared.xattrmap.listed.Seen.TheVariants.{Undecided, Hidden, Listed}
 use Rattle.virtiofs_map.specs.declared.xattrmap.scopes.Side.{Side}
 use Rattle.virtiofs_map.specs.declared.xattrmap.scopes.Side.TheVariants.{Client, Server}
 use Rattle.virtiofs_map.specs.declared.xattrmap.view.XattrMapRef.{XattrMapRef}
@@ -30,9 +30,8 @@ rule_of_row bytes row = record {
   kind = type_numbered (le_u64_at row 0 / 281474976710656 % 4);
   client = holds Client (le_u64_at row 0 / 281474976710656 / 4 % 4);
   server = holds Server (le_u64_at row 0 / 281474976710656 / 4 % 4);
-  key =
-      take (le_u64_at row 8 - le_u64_at row 0 % 281474976710656) (drop (le_u64_at row 0 % 281474976710656) bytes);
-  prepend = take (le_u64_at row 16 - le_u64_at row 8) (drop (le_u64_at row 8) bytes);
+  key = take ((span_of row).prepend - (span_of row).key) (drop (span_of row).key bytes);
+  prepend = take ((span_of row).end - (span_of row).prepend) (drop (span_of row).prepend bytes);
 }
 
 -- the rules of the first of these rows
@@ -40,9 +39,13 @@ abbrev pub rules_of_rows : List ℕ → ℕ → List ℕ → List MappingRule
 rules_of_rows bytes zero rows = []
 rules_of_rows bytes (suc count) rows = rule_of_row bytes (take 24 rows) ∷ rules_of_rows bytes count (drop 24 rows)
 
+-- the rules of these rows
+unfoldable pub rules_stored : List ℕ → List ℕ → List MappingRule
+rules_stored bytes rows = rules_of_rows bytes (length rows / 24) rows
+
 -- the rules that an image has
 unfoldable pub rules_in : List ℕ → List MappingRule
-rules_in image = rules_of_rows (part image 3) (length (part image 2) / 24) (part image 2)
+rules_in image = rules_stored (part image 3) (part image 2)
 
 -- the rules that a map has
 abbrev pub rules_of : XattrMapRef → List MappingRule
@@ -95,14 +98,12 @@ header_of places = flat_map le_u64_bytes (numbers_of places)
 
 -- the guest sees that of a name of the host
 abbrev pub IsSeenAs : HostAnswer → Seen → Type 0
-IsSeenAs answer NoMap = ⊥
 IsSeenAs answer Undecided = answer ≡ IsUndecided
 IsSeenAs answer Hidden = answer ≡ IsHidden
 IsSeenAs answer (Listed shown) = answer ≡ IsListed shown.now
 
 -- how many bytes are listed
 abbrev pub seen_length : Seen → ℕ
-seen_length NoMap = 0
 seen_length Undecided = 0
 seen_length Hidden = 0
 seen_length (Listed shown) = length shown.now

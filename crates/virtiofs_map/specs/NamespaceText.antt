@@ -1,32 +1,23 @@
 -- The texts that say a range of a namespace, as `:0:100000:65536:`, and what is wrong with the others.
 use Rattle.std.specs.Prelude.{◌≡◌, ◌≢◌, ◌⊎◌, ℕ, true, false, List, [], ◌∷◌, ◌++◌, length, Contains}
+use Rattle.std.specs.List.{AllZip}
 use Rattle.virtiofs_map.specs.Alphanumeric.{is_alphanumeric}
 use Rattle.virtiofs_map.specs.Numeral.{IsNumeral}
-use Rattle.virtiofs_map.specs.Separator.{Lacks, split_at_each}
+use Rattle.virtiofs_map.specs.Separator.{split_at_each}
 use Rattle.virtiofs_map.specs.declared.idmap.IdMapError.{IdMapError}
 use Rattle.virtiofs_map.specs.declared.idmap.IdMapError.TheVariants as errors
-
--- the field is a numeral of the value, and the delimiter is not in it
-pub record IsField (delimiter : ℕ) (field : List ℕ) (value : ℕ) : Type 0 where
-  pub free : Lacks delimiter field
-  pub numeral : IsNumeral field value
-
--- the text is three fields, with a delimiter that is not alphanumeric before, between and after them
-pub record SaysNamespace (text : List ℕ) (inside outside count : ℕ) : Type 0 where
-  pub delimiter : ℕ
-  pub first : List ℕ
-  pub second : List ℕ
-  pub third : List ℕ
-  pub whole : text ≡ delimiter ∷ first ++ delimiter ∷ second ++ delimiter ∷ third ++ delimiter ∷ []
-  pub delimits : is_alphanumeric delimiter ≡ false
-  pub first_says : IsField delimiter first inside
-  pub second_says : IsField delimiter second outside
-  pub third_says : IsField delimiter third count
 
 -- the text begins and ends with the same character, which is not alphanumeric
 pub record IsEnclosed (text : List ℕ) (delimiter : ℕ) (inner : List ℕ) : Type 0 where
   pub whole : text ≡ delimiter ∷ inner ++ delimiter ∷ []
   pub delimits : is_alphanumeric delimiter ≡ false
+
+-- the text is three numerals, with a delimiter that is not alphanumeric before, between and after them
+pub record SaysNamespace (text : List ℕ) (inside outside count : ℕ) : Type 0 where
+  pub delimiter : ℕ
+  pub inner : List ℕ
+  pub enclosed : IsEnclosed text delimiter inner
+  pub fields : AllZip IsNumeral (split_at_each delimiter inner) (inside ∷ outside ∷ count ∷ [])
 
 -- the last character is alphanumeric, or the text is not two or more characters of which the first equals the last
 pub record HasNoDelimiter (text : List ℕ) : Type 0 where

@@ -6,7 +6,7 @@ use Rattle.std.specs.Prelude.{slice_index}
 use Rattle.std.specs.List.{flat_map}
 use Rattle.std.specs.List.Sorted.{IsPermutation}
 use Rattle.std.specs.Option.{option_map_or}
-use Rattle.virtiofs_map.specs.FirstRule.{CountsFronts, acts, pattern, longest, deciding_length, shared}
+use Rattle.virtiofs_map.specs.FirstRule.{CountsFronts, acts, pattern, shared}
 use Rattle.virtiofs_map.specs.Names.{begins, first}
 use Rattle.virtiofs_map.specs.PatternTrie.{nodes_in_all}
 use Rattle.virtiofs_map.specs.Rule.{MappingRule, HasNoZero, type_number}
@@ -102,16 +102,6 @@ pub record IsTrie (side : Side) (rules : List MappingRule) (nodes : List Node) (
   pub each : (at : ℕ) (node : Node) → slice_get nodes at ≡ Some node → IsReal at node
       → IsNode side rules nodes bytes path at node
 
--- ---- a walk
-
--- a walk found the answer of a name, and passed so many of its bytes: at least as many as the deciding pattern has, and
--- no more than the name and the longest pattern have
-pub record Walks (side : Side) (rules : List MappingRule) (name : List ℕ) (answer passed : ℕ) : Type 0 where
-  pub answers : answer ≡ answer_of side rules name
-  pub decided : deciding_length side rules name ≤ passed
-  pub within : passed ≤ length name
-  pub short : passed ≤ longest side rules
-
 -- ---- patterns, before a trie is made of them
 
 -- where the patterns of a rule stand among the bytes: the key, and right after it the prepend
@@ -122,13 +112,6 @@ pub record IsSpan (bytes : List ℕ) (rule : MappingRule) (span : Span) : Type 0
   pub rising_on : span.prepend ≤ span.end
   pub within : span.end ≤ length bytes
 
--- each rule has its span
-pub record AreSpans (bytes : List ℕ) (rules : List MappingRule) (spans : List Span) : Type 0 where
-  pub counted : length spans ≡ length rules
-  pub each : (place : ℕ) (rule : MappingRule) (span : Span) → slice_get rules place ≡ Some rule
-      → slice_get spans place ≡ Some span
-      → IsSpan bytes rule span
-
 -- a pattern of the rule at a place, which acts on the side: it stands among the bytes, and its answer stands for the
 -- rule
 pub record IsPatternAt (side : Side) (rules : List MappingRule) (bytes : List ℕ) (place : ℕ) (one : Pattern) : Type
@@ -138,8 +121,6 @@ pub record IsPatternAt (side : Side) (rules : List MappingRule) (bytes : List �
   pub acting : acts side rule ≡ true
   pub are : one.bytes.now ≡ pattern side rule
   pub among : take (length one.bytes.now) (drop one.start bytes) ≡ one.bytes.now
-  pub within : one.start + length one.bytes.now ≤ length bytes
-  pub small : (k : ℕ) → slice_index one.bytes.now k < 256
   pub stands_for : one.answer ≡ 4 * place + type_number rule.kind
 
 -- a pattern of a rule that acts on the side
@@ -298,7 +279,7 @@ pub record IsTrieIn (side : Side) (rules : List MappingRule) (image : List ℕ) 
 -- a walk found the answer of a name, and the bytes that it passed hold no zero where the patterns of the rules hold
 -- none
 pub record Passes (side : Side) (rules : List MappingRule) (name : List ℕ) (answer passed : ℕ) : Type 0 where
-  pub walks : Walks side rules name answer passed
+  pub answers : answer ≡ answer_of side rules name
   pub no_zero : All HasNoZero rules → All (λ byte. byte ≢ 0) (take passed name)
 
 -- a walk found the answer of a name, and counted one step more than the most bytes that the name shares with a pattern
@@ -315,22 +296,9 @@ pub record IsReadable (nodes : List Node) (bytes : List ℕ) (parent : Node) : T
   pub labels : (byte at : ℕ) (child : Node) → IsChild nodes parent byte at child
       → child.label + child.length ≤ length bytes
 
--- the byte leads to a child of the node
-pub record LeadsTo (nodes : List Node) (parent : Node) (byte : ℕ) (child : Node) : Type 0 where
-  pub place : ℕ
-  pub leads : IsChild nodes parent byte place child
-
 -- the byte leads nowhere
 abbrev pub LeadsNowhere : List Node → Node → ℕ → Type 0
 LeadsNowhere nodes parent byte = (at : ℕ) (child : Node) → ¬ IsChild nodes parent byte at child
-
--- the first byte of the rest and the label of a child were passed, and counted
-pub record StepsTo (nodes : List Node) (bytes : List ℕ) (parent : Node) (rest : List ℕ) (child : Node)
-    (left : List ℕ) (before after : ℕ) : Type 0 where
-  pub byte : ℕ
-  pub to : LeadsTo nodes parent byte child
-  pub passed : rest ≡ byte ∷ label_of bytes child ++ left
-  pub counted : after ≡ count_after before (length (label_of bytes child) + 1)
 
 -- the root has that row
 pub record IsRootRow (first labels : ℕ) (nodes : List Node) (row : List ℕ) : Type 0 where
@@ -341,16 +309,21 @@ pub record IsRootRow (first labels : ℕ) (nodes : List Node) (row : List ℕ) :
 -- the byte leads to a child of the node, which has that row
 pub record LeadsToRow (first labels : ℕ) (nodes : List Node) (parent : Node) (byte : ℕ) (row : List ℕ) : Type
     0 where
+  pub place : ℕ
   pub child : Node
+  pub leads : IsChild nodes parent byte place child
   pub is : IsRow first labels child row
-  pub to : LeadsTo nodes parent byte child
 
--- the first byte of the rest and the label of a child were passed, which has that row
-pub record StepsToRow (first labels : ℕ) (nodes : List Node) (bytes : List ℕ) (parent : Node) (rest row : List ℕ)
+-- the first byte of the rest and the label of a child, which has that row, were passed and counted
+pub record StepsTo (first labels : ℕ) (nodes : List Node) (bytes : List ℕ) (parent : Node) (rest row : List ℕ)
     (left : List ℕ) (before after : ℕ) : Type 0 where
+  pub byte : ℕ
+  pub place : ℕ
   pub child : Node
+  pub leads : IsChild nodes parent byte place child
   pub is : IsRow first labels child row
-  pub step : StepsTo nodes bytes parent rest child left before after
+  pub passed : rest ≡ byte ∷ label_of bytes child ++ left
+  pub counted : after ≡ count_after before (length (label_of bytes child) + 1)
 
 -- nothing is left, or its first byte leads nowhere; nothing was counted
 pub record Ends (nodes : List Node) (parent : Node) (rest : List ℕ) (before after : ℕ) : Type 0 where
@@ -364,8 +337,9 @@ pub record Misses (nodes : List Node) (bytes : List ℕ) (parent : Node) (rest :
   pub byte : ℕ
   pub left : List ℕ
   pub split : rest ≡ byte ∷ left
+  pub place : ℕ
   pub child : Node
-  pub to : LeadsTo nodes parent byte child
+  pub leads : IsChild nodes parent byte place child
   pub unlike : begins (label_of bytes child) left ≡ false
   pub counted : whole ≡ true → after ≡ count_after before (shared (label_of bytes child) left + 1)
 

@@ -1,21 +1,26 @@
 -- What the ranges of a map stand for, and how they are found. Only private functions cite these definitions.
-use Rattle.std.specs.Prelude.{◌≡◌, ◌≢◌, ◌⊎◌, ℕ, ◌+◌, ◌^◌, ◌<◌, ◌≤◌, List, length, take, slice_index_or, All}
-use Rattle.std.specs.Prelude.{AllPairs, Contains, Some, IfSome}
+use Rattle.std.specs.Prelude.{◌⊎◌, ℕ, ◌+◌, ◌^◌, ◌<◌, ◌≤◌, if◌then◌else◌, List, length, take, slice_index_or, All}
+use Rattle.std.specs.Prelude.{AllPairs, Bool, nat_le, nat_lt, Option, Some, None, filter_map, IsPermutation}
 use Rattle.std.specs.List.Sorted.{IsNonDecreasingBy}
 use Rattle.virtiofs_map.specs.Mapping.{entry_of, first_of, count_of}
 use Rattle.virtiofs_map.specs.Build.{HasSource, HasTarget, Accepted}
-use Rattle.virtiofs_map.specs.LookupSteps.{acting}
 use Rattle.virtiofs_map.specs.declared.cmdline.IdMap.{IdMap}
 use Rattle.virtiofs_map.specs.declared.soft_idmap.entry.Direction.{Direction}
 use Rattle.virtiofs_map.specs.declared.soft_idmap.entry.Direction.TheVariants.{GuestToHost, HostToGuest}
 use Rattle.virtiofs_map.specs.declared.soft_idmap.entry.Entry.{Entry}
-use Rattle.virtiofs_map.specs.declared.soft_idmap.indexed.IndexedEntry.{IndexedEntry}
 
 -- ---- the ranges of a direction
 
--- the first range ends before the other one begins
+-- the first range ends before the other one begins, as a fact and as a test
 abbrev pub Precedes : Entry → Entry → Type 0
 Precedes range other = first_of range + count_of range ≤ first_of other
+
+abbrev pub precedes : Entry → Entry → Bool
+precedes range other = nat_le (first_of range + count_of range) (first_of other)
+
+-- no range of the entry is too long
+abbrev pub HasRoom : Entry → Type 0
+HasRoom entry = HasSource entry × HasTarget entry
 
 -- the range covers a number, and none above 4294967294
 pub record HasNumbers (range : Entry) : Type 0 where
@@ -28,16 +33,22 @@ pub record AreRanges (ranges : List Entry) : Type 0 where
   pub target : All HasTarget ranges
   pub ordered : AllPairs Precedes ranges
 
--- the range is that of one of the specifications
-abbrev pub IsOfOne : List IdMap → Direction → Entry → Type 0
-IsOfOne specs direction range = (spec : IdMap) × Contains specs spec × (entry_of spec direction ≡ Some range)
+-- the entry, if it covers a number
+abbrev pub if_acts : Option Entry → Option Entry
+if_acts None = None
+if_acts (Some entry) = if nat_lt 0 (count_of entry) then Some entry else None
 
--- the ranges are those of the specifications in that direction, but for those that cover no number
-pub record Stores (specs : List IdMap) (direction : Direction) (ranges : List Entry) : Type 0 where
-  pub from : All (IsOfOne specs direction) ranges
-  pub each : (spec : IdMap) (range : Entry) → Contains specs spec → entry_of spec direction ≡ Some range
-      → 1 ≤ count_of range → Contains ranges range
-  pub counted : length ranges ≡ acting specs direction
+abbrev pub acting_entry : Direction → IdMap → Option Entry
+acting_entry direction spec = if_acts (entry_of spec direction)
+
+-- the entries of a direction that cover a number, in the order of their specifications
+abbrev pub entries : List IdMap → Direction → List Entry
+entries specs direction = filter_map (acting_entry direction) specs
+
+-- the ranges are those of the specifications in that direction, in order
+pub record AreRangesOf (specs : List IdMap) (direction : Direction) (ranges : List Entry) : Type 0 where
+  pub whole : IsPermutation (entries specs direction) ranges
+  pub ordered : AreRanges ranges
 
 -- ---- a search
 
@@ -61,61 +72,16 @@ HasBegun taken left = (1 ≤ taken) ⊎ (2 ≤ left)
 
 -- ---- a build
 
--- the specification stands at that index of the list
-abbrev pub StandsAt : List IdMap → ℕ → IdMap → Type 0
-StandsAt specs index spec = (index < length specs) × (slice_index_or specs index spec ≡ spec)
+-- the entries of a direction that cover a number, in the order of their first numbers
+pub record AreSorted (specs : List IdMap) (direction : Direction) (sorted : List Entry) : Type 0 where
+  pub whole : IsPermutation (entries specs direction) sorted
+  pub rising : IsNonDecreasingBy first_of sorted
 
--- the entry is that of the specification at its index, and covers a number
-pub record IsIndexed (specs : List IdMap) (direction : Direction) (indexed : IndexedEntry) : Type 0 where
-  pub spec : IdMap
-  pub here : StandsAt specs indexed.index spec
-  pub sets_up : entry_of spec direction ≡ Some indexed.entry
-  pub counted : 1 ≤ count_of indexed.entry
-
--- `indexed` has, for each of the first `count` specifications, its entry in that direction if that covers a number:
--- each entry once, with the index of its specification
-pub record AreIndexed (specs : List IdMap) (direction : Direction) (count : ℕ) (indexed : List IndexedEntry) : Type 0 where
-  pub from : All (λ one. IsIndexed specs direction one × (one.index < count)) indexed
-  pub each : (index : ℕ) (spec : IdMap) (entry : Entry) → index < count → StandsAt specs index spec
-      → entry_of spec direction ≡ Some entry → 1 ≤ count_of entry
-      → Contains indexed (record { entry = entry; index = index })
-  pub once : AllPairs (λ one other. one.index ≢ other.index) indexed
-  pub counted : length indexed ≡ acting (take count specs) direction
-
--- the same for all specifications of the list, in the order of the first numbers of the entries
-pub record AreSorted (specs : List IdMap) (direction : Direction) (indexed : List IndexedEntry) : Type 0 where
-  pub are_indexed : AreIndexed specs direction (length specs) indexed
-  pub rising : IsNonDecreasingBy (λ one. first_of one.entry) indexed
-
--- the specifications are accepted, and these are their entries in the two directions
-pub record AreSortedBothWays (specs : List IdMap) (guests hosts : List IndexedEntry) : Type 0 where
+-- the specifications are accepted, and these are their ranges in the two directions
+pub record AreRangesBothWays (specs : List IdMap) (guests hosts : List Entry) : Type 0 where
   pub accepted : Accepted specs
-  pub from_guest : AreSorted specs GuestToHost guests
-  pub from_host : AreSorted specs HostToGuest hosts
-
--- no two entries of the first `count` specifications overlap, and they are in order
-abbrev pub ArePrecedingBelow : ℕ → List IndexedEntry → Type 0
-ArePrecedingBelow count indexed =
-    AllPairs (λ one other. one.index < count → other.index < count → Precedes one.entry other.entry) indexed
-
--- ---- the test of a front of the list
-
--- progress of the test: `end` is at least the end of each entry tested so far, and is the end of one of them, or 0
-pub record KeepsApartTo (count end : ℕ) (indexed : List IndexedEntry) : Type 0 where
-  pub preceding : ArePrecedingBelow count indexed
-  pub before : All (λ one. one.index < count → first_of one.entry + count_of one.entry ≤ end) indexed
-  pub reached : (end ≡ 0)
-      ⊎ ((one : IndexedEntry) × Contains indexed one × (one.index < count) × (first_of one.entry + count_of one.entry ≡ end))
-
--- the ranges of the specification are not too long in that direction
-pub record HasRoom (spec : IdMap) (direction : Direction) : Type 0 where
-  pub source : IfSome (entry_of spec direction) HasSource
-  pub target : IfSome (entry_of spec direction) HasTarget
-
--- the ranges of the specification are not too long in either direction
-pub record HasRoomBothWays (spec : IdMap) : Type 0 where
-  pub guest : HasRoom spec GuestToHost
-  pub host : HasRoom spec HostToGuest
+  pub from_guest : AreRangesOf specs GuestToHost guests
+  pub from_host : AreRangesOf specs HostToGuest hosts
 
 -- the first `count` specifications are accepted, and with the next one they are not
 pub record IsLongestAccepted (specs : List IdMap) (count : ℕ) : Type 0 where

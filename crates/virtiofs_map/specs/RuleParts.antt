@@ -1,10 +1,8 @@
 -- What the private functions on rules and their text say. Only they cite these definitions.
-use Rattle.std.specs.Prelude.{◌≡◌, ◌⊎◌, ℕ, ◌-◌, Bool, List, [], ◌∷◌, length, map, take, drop, ◌==◌, Contains, IsSomeAnd}
-use Rattle.std.specs.Prelude.{All as AllOf}
+use Rattle.std.specs.Prelude.{◌≡◌, ◌⊎◌, ℕ, Bool, List, [], ◌∷◌, length, ◌==◌, Contains, IsSomeAnd}
 use Rattle.std.specs.Int.RustNames.{bit_and}
 use Rattle.std.specs.Str.{chars}
-use Rattle.virtiofs_map.specs.NodeParts.{IsSpan}
-use Rattle.virtiofs_map.specs.NamesImage.{pattern_bytes}
+use Rattle.virtiofs_map.specs.NamesImage.{AreRuleRows, pattern_bytes}
 use Rattle.virtiofs_map.specs.Rule.{RuleType, MappingRule}
 use Rattle.virtiofs_map.specs.Rule as types
 use Rattle.virtiofs_map.specs.RuleText.{ScopeName, RuleHead, RuleAsWritten, rules_of, Opens, Fields}
@@ -14,7 +12,6 @@ use Rattle.virtiofs_map.specs.Separator.{Lacks}
 use Rattle.virtiofs_map.specs.declared.xattrmap.errors.ErrorKind.{ErrorKind}
 use Rattle.virtiofs_map.specs.declared.xattrmap.errors.ErrorKind.TheVariants.{OutOfMemory}
 use Rattle.virtiofs_map.specs.declared.xattrmap.errors.PatternField.{PatternField}
-use Rattle.virtiofs_map.specs.declared.xattrmap.rules.RuleEntry.{RuleEntry}
 use Rattle.virtiofs_map.specs.declared.xattrmap.rules.RuleKind.{RuleKind}
 use Rattle.virtiofs_map.specs.declared.xattrmap.rules.RuleKind.TheVariants.{Prefix, Okay, Bad, Unsupported}
 use Rattle.virtiofs_map.specs.declared.xattrmap.rules.RuleRef.{RuleRef}
@@ -23,10 +20,9 @@ use Rattle.virtiofs_map.specs.declared.xattrmap.scopes.ScopeWord.{ScopeWord}
 use Rattle.virtiofs_map.specs.declared.xattrmap.scopes.ScopeWord.TheVariants.{All, Client, Server}
 use Rattle.virtiofs_map.specs.declared.xattrmap.scopes.Side.{Side}
 use Rattle.virtiofs_map.specs.declared.xattrmap.scopes.Side.TheVariants as sides
-use Rattle.virtiofs_map.specs.declared.xattrmap.spans.Span.{Span}
-use Rattle.virtiofs_map.specs.declared.xattrmap.written.Head.{Head}
-use Rattle.virtiofs_map.specs.declared.xattrmap.written.Head.TheVariants.{Typed, Map}
-use Rattle.virtiofs_map.specs.declared.xattrmap.written.WrittenRule.{WrittenRule}
+use Rattle.virtiofs_map.specs.declared.xattrmap.reader.Head.{Head}
+use Rattle.virtiofs_map.specs.declared.xattrmap.reader.Head.TheVariants.{Typed, Map}
+use Rattle.virtiofs_map.specs.declared.xattrmap.reader.WrittenRule.{WrittenRule}
 
 -- ---- the code's types, as the definitions have them
 
@@ -66,13 +62,7 @@ bits_of All = 3
 bits_of Client = 1
 bits_of Server = 2
 
--- ---- rules in one memory
-
--- the rules in order, the bytes of all their patterns, and where those of each rule stand among them
-pub record KeptRules : Type 0 where
-  pub list : List MappingRule
-  pub bytes : List ℕ
-  pub spans : List Span
+-- ---- rules as they are kept
 
 -- the rule of that type, for those sides, with these patterns
 abbrev pub rule_with : RuleKind → Scope → List ℕ → List ℕ → MappingRule
@@ -88,21 +78,16 @@ rule_with kind scope key prepend = record {
 abbrev pub rule_meant : RuleRef → MappingRule
 rule_meant rule = rule_with rule.kind rule.scope rule.key.now rule.prepend.now
 
--- the rule of an entry, whose patterns stand among the bytes
-abbrev pub rule_kept : List ℕ → RuleEntry → MappingRule
-rule_kept bytes entry =
-    rule_with entry.kind entry.scope
-    (take (entry.span.prepend - entry.span.key) (drop entry.span.key bytes))
-    (take (entry.span.end - entry.span.prepend) (drop entry.span.prepend bytes))
+-- the rules in order, their rows, and the bytes of all their patterns
+pub record KeptRules : Type 0 where
+  pub list : List MappingRule
+  pub rows : List ℕ
+  pub bytes : List ℕ
 
--- the entry's patterns stand among the bytes
-abbrev pub IsAmong : List ℕ → RuleEntry → Type 0
-IsAmong bytes entry = IsSpan bytes (rule_kept bytes entry) entry.span
-
--- the entries' patterns stand among the bytes, and there are no other bytes
-pub record AreKept (bytes : List ℕ) (entries : List RuleEntry) : Type 0 where
-  pub among : AllOf (IsAmong bytes) entries
-  pub whole : length bytes ≡ pattern_bytes (map (rule_kept bytes) entries)
+-- the rows are those of the rules, and there are no bytes but those of their patterns
+pub record AreKept (rules : List MappingRule) (rows bytes : List ℕ) : Type 0 where
+  pub stored : AreRuleRows rules rows bytes
+  pub whole : length bytes ≡ pattern_bytes rules
 
 -- ---- reading
 

@@ -4,7 +4,7 @@ use Rattle.std.specs.Prelude.{◌≡◌, ◌⊎◌, ℕ, ◌+◌, ◌*◌, ◌<�
 use Rattle.std.specs.Prelude.{Some}
 use Rattle.virtiofs_map.specs.ImageAnswer.{SaysValue}
 use Rattle.virtiofs_map.specs.Mapping.{first_of, EntryCovers, target_of}
-use Rattle.virtiofs_map.specs.RangeParts.{AreRanges, Stores, Searched}
+use Rattle.virtiofs_map.specs.RangeParts.{AreRanges, AreRangesOf, Searched}
 use Rattle.virtiofs_map.specs.declared.cmdline.IdMap.{IdMap}
 use Rattle.virtiofs_map.specs.declared.soft_idmap.entry.Direction.{Direction}
 use Rattle.virtiofs_map.specs.declared.soft_idmap.entry.Direction.TheVariants.{GuestToHost, HostToGuest}
@@ -68,8 +68,7 @@ pub record Tabulates (table : Table) (ranges : List Entry) : Type 0 where
 -- the words are those of the ranges of the specifications in that direction
 pub record HasRanges (specs : List IdMap) (direction : Direction) (table : Table) : Type 0 where
   pub ranges : List Entry
-  pub stores : Stores specs direction ranges
-  pub ordered : AreRanges ranges
+  pub are : AreRangesOf specs direction ranges
   pub stand : Tabulates table ranges
 
 -- how many ranges there are from guest to host, and from host to guest

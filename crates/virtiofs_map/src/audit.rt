@@ -44,9 +44,8 @@ mod deciding;
 mod gathered;
 mod least;
 mod ordered;
+mod passing;
 mod question;
-mod questions;
-mod reach;
 mod terminated;
 
 use crate::steps::Steps;
@@ -91,8 +90,13 @@ pub fn audit_counted<A: Allocator + Copy>(
     ensures counted { OnOk result (CountsBetween 1 (most_tried map.now) steps.old steps.new) }
     ensures uncounted { OnErr result (steps.new ≡ steps.old) }
 {
-    let (map, all) = (map.as_ref(), XattrName { bytes: &[] });
-    let question = Question::new(alloc, NameFault::Lost, map, map, all)?;
+    let (map, beginning) = (map.as_ref(), XattrName { bytes: &[] });
+    let question = Question {
+        fault: NameFault::Lost,
+        map,
+        other: map,
+        beginning,
+    };
     least_guest_name(alloc, &question, steps)
 }
 

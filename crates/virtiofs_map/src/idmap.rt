@@ -137,12 +137,11 @@ impl fmt::Display for UidMap {
     ghost output = { λ map. Some (namespace_text map.inside_uid map.outside_uid map.count) };
 
     fn fmt<W: fmt::Write>(&self, f: &mut fmt::Formatter<W>) -> fmt::Result {
-        let range = Range {
-            inside: self.inside_uid,
-            outside: self.outside_uid,
-            count: self.count,
-        };
-        range.fmt(f)
+        write!(
+            f,
+            ":{}:{}:{}:",
+            self.inside_uid, self.outside_uid, self.count
+        )
     }
 }
 
@@ -153,11 +152,10 @@ impl fmt::Display for GidMap {
     ghost output = { λ map. Some (namespace_text map.inside_gid map.outside_gid map.count) };
 
     fn fmt<W: fmt::Write>(&self, f: &mut fmt::Formatter<W>) -> fmt::Result {
-        let range = Range {
-            inside: self.inside_gid,
-            outside: self.outside_gid,
-            count: self.count,
-        };
-        range.fmt(f)
+        write!(
+            f,
+            ":{}:{}:{}:",
+            self.inside_gid, self.outside_gid, self.count
+        )
     }
 }

@@ -45,7 +45,6 @@ pub mod image;
 pub mod laws;
 mod le_u64;
 mod listed;
-mod lookup;
 mod names;
 mod reader;
 pub(crate) mod rules;
@@ -53,7 +52,6 @@ mod scopes;
 mod spans;
 mod trie;
 mod view;
-mod written;
 
 pub use client::{AppliedRule, PassedName};
 pub use errors::{Error, ErrorKind, PatternField};
@@ -65,7 +63,6 @@ pub use rules::{RuleKind, RuleRef};
 pub use scopes::Side;
 use std::alloc::{AllocError, Allocator, Global};
 use std::marker::Model;
-pub(crate) use trie::common_prefix_length;
 pub use view::XattrMapRef;
 
 /// A map of attribute names, in one row of bytes: its image. In contracts it is the list of its

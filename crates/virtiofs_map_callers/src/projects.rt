@@ -46,18 +46,24 @@ impl IdOffset for ProjectOffset {
 }
 
 /// The id of a project in the guest.
-#[derive(Clone, Copy, Debug, PartialEq, Eq, PartialOrd, Ord)]
-pub struct GuestProject(pub ProjectNumber);
+pub type GuestProject = Project<true>;
 
-impl From<ProjectNumber> for GuestProject {
+/// The id of a project on the host.
+pub type HostProject = Project<false>;
+
+/// The id of a project on one side.
+#[derive(Clone, Copy, Debug, PartialEq, Eq, PartialOrd, Ord)]
+pub struct Project<const IS_GUEST: bool>(pub ProjectNumber);
+
+impl<const IS_GUEST: bool> From<ProjectNumber> for Project<IS_GUEST> {
     ghost from_gives = { λ n id. id.0 ≡ n };
 
     fn from(n: ProjectNumber) -> Self {
-        GuestProject(n)
+        Project(n)
     }
 }
 
-impl Sub for GuestProject {
+impl<const IS_GUEST: bool> Sub for Project<IS_GUEST> {
     type Output = ProjectOffset;
 
     ghost can_sub = { λ id other. other.0.0 ≤ id.0.0 };
@@ -69,25 +75,25 @@ impl Sub for GuestProject {
     }
 }
 
-impl Add<ProjectOffset> for GuestProject {
-    type Output = GuestProject;
+impl<const IS_GUEST: bool> Add<ProjectOffset> for Project<IS_GUEST> {
+    type Output = Self;
 
     ghost can_add = { λ id offset. id.0.0 + offset.0 ≤ 4294967295 };
 
     ghost add_gives = { λ id offset total. total.0.0 ≡ id.0.0 + offset.0 };
 
     fn add(self, offset: ProjectOffset) -> Self {
-        GuestProject(ProjectNumber(self.0.0 + offset.0))
+        Project(ProjectNumber(self.0.0 + offset.0))
     }
 }
 
-impl fmt::Display for GuestProject {
+impl<const IS_GUEST: bool> fmt::Display for Project<IS_GUEST> {
     fn fmt<W: fmt::Write>(&self, f: &mut fmt::Formatter<W>) -> fmt::Result {
         write!(f, "project {}", self.0.0)
     }
 }
 
-impl Id for GuestProject {
+impl<const IS_GUEST: bool> Id for Project<IS_GUEST> {
     type Inner = ProjectNumber;
 
     type Offset = ProjectOffset;
@@ -117,7 +123,7 @@ impl GuestId for GuestProject {
     type HostType = HostProject;
 
     fn id_mapped(self) -> HostProject {
-        HostProject(self.0)
+        Project(self.0)
     }
 
     fn difference(self, _other: Self, _offset: ProjectOffset) {}
@@ -127,79 +133,11 @@ impl GuestId for GuestProject {
     fn sum(self, _offset: ProjectOffset, _total: Self) {}
 }
 
-/// The id of a project on the host.
-#[derive(Clone, Copy, Debug, PartialEq, Eq, PartialOrd, Ord)]
-pub struct HostProject(pub ProjectNumber);
-
-impl From<ProjectNumber> for HostProject {
-    ghost from_gives = { λ n id. id.0 ≡ n };
-
-    fn from(n: ProjectNumber) -> Self {
-        HostProject(n)
-    }
-}
-
-impl Sub for HostProject {
-    type Output = ProjectOffset;
-
-    ghost can_sub = { λ id other. other.0.0 ≤ id.0.0 };
-
-    ghost sub_gives = { λ id other offset. offset.0 ≡ id.0.0 - other.0.0 };
-
-    fn sub(self, other: Self) -> ProjectOffset {
-        ProjectOffset(self.0.0 - other.0.0)
-    }
-}
-
-impl Add<ProjectOffset> for HostProject {
-    type Output = HostProject;
-
-    ghost can_add = { λ id offset. id.0.0 + offset.0 ≤ 4294967295 };
-
-    ghost add_gives = { λ id offset total. total.0.0 ≡ id.0.0 + offset.0 };
-
-    fn add(self, offset: ProjectOffset) -> Self {
-        HostProject(ProjectNumber(self.0.0 + offset.0))
-    }
-}
-
-impl fmt::Display for HostProject {
-    fn fmt<W: fmt::Write>(&self, f: &mut fmt::Formatter<W>) -> fmt::Result {
-        write!(f, "project {}", self.0.0)
-    }
-}
-
-impl Id for HostProject {
-    type Inner = ProjectNumber;
-
-    type Offset = ProjectOffset;
-
-    ghost number = { λ id. id.0.0 };
-
-    fn is_root(&self) -> bool {
-        self.0.0 == 0
-    }
-
-    fn into_inner(self) -> ProjectNumber {
-        self.0
-    }
-
-    fn bounded(self) {}
-
-    fn keeps(_inner: ProjectNumber, _made: Self) {}
-
-    fn identified(self, _other: Self) {}
-
-    fn ordered(self, _other: Self) {}
-
-    fn subtracts(self, _other: Self) {}
-}
-
 impl HostId for HostProject {
     type GuestType = GuestProject;
 
     fn id_mapped(self) -> GuestProject {
-        GuestProject(self.0)
+        Project(self.0)
     }
 
     fn difference(self, _other: Self, _offset: ProjectOffset) {}

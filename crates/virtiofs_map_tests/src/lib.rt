@@ -4,7 +4,8 @@
 //! texts. They also run the crate `virtiofs_map_callers`, which calls the library as a daemon does.
 //! `refused` refuses each request for memory of each call in turn. `without_memory` has the calls
 //! that take none. `hostile` has large texts and names, many rules and many specifications.
-//! `process` is about the crate `virtiofs_host`.
+//! `process` is about the crate `virtiofs_host`, and `output` about `virtiofs_output`: that a flush
+//! which fails is told. No contract can say it, since std's do not say when a flush fails.
 #![tactic(auto)]
 
 #[cfg(test)]
@@ -23,6 +24,8 @@ mod id_audit;
 mod id_types;
 #[cfg(test)]
 mod idmap;
+#[cfg(test)]
+mod output;
 #[cfg(test)]
 mod process;
 #[cfg(test)]

@@ -12,46 +12,25 @@ use virtiofs_map_callers::users::{owner, users, users_again};
 
 type Users = IdMap<GuestUid, HostUid>;
 
-/// A number, and what it becomes; `None` where its use fails.
-type Becomes = (u32, Option<u32>);
-
-/// Texts of specifications, what guest's numbers become under them, and host's.
-type Known = (&'static str, &'static [Becomes], &'static [Becomes]);
-
-const TEN: &[Becomes] = &[(5, Some(1005)), (10, Some(10)), (1005, Some(1005))];
-
-const TEN_BACK: &[Becomes] = &[(1005, Some(5))];
-
-const SAME: &[Becomes] = &[(0, Some(0)), (5, Some(5)), (4294967295, Some(4294967295))];
-
-const ORDERED: &[Becomes] = &[(22, Some(7)), (9, Some(1009))];
-
-const ORDERED_BACK: &[Becomes] = &[(1009, Some(9)), (5001, Some(2)), (5002, Some(5002))];
-
-static KNOWN: [Known; 11] = [
+/// Texts of specifications, what guest's numbers become under them, and host's: a number, `=`, and
+/// what it becomes, or `-` where its use fails.
+static KNOWN: [(&str, &str, &str); 11] = [
     ("map:0:1000:10", TEN, TEN_BACK),
     ("host:1000:0:10|guest:0:1000:10", TEN, TEN_BACK),
-    ("FORBID-GUEST:7:3", &[(8, None), (10, Some(10))], &[]),
+    ("FORBID-GUEST:7:3", "8=- 10=10", ""),
     (
         "squash-guest:0:1001:4294967295|host:1001:1000:1",
-        &[
-            (0, Some(1001)),
-            (4294967294, Some(1001)),
-            (4294967295, Some(4294967295)),
-        ],
-        &[(1001, Some(1000)), (1000, Some(1000))],
+        "0=1001 4294967294=1001 4294967295=4294967295",
+        "1001=1000 1000=1000",
     ),
     ("", SAME, SAME),
     ("guest:4294967295:0:0", SAME, SAME),
-    ("guest:0:4294967290:6", &[(5, Some(4294967295))], &[]),
-    ("guest:0:100:10|guest:5:200:0", &[(5, Some(105))], &[]),
+    ("guest:0:4294967290:6", "5=4294967295", ""),
+    ("guest:0:100:10|guest:5:200:0", "5=105", ""),
     (
         "host:4294967294:4294967295:1|map:4294967295:4294967295:0",
-        &[],
-        &[
-            (4294967294, Some(4294967295)),
-            (4294967295, Some(4294967295)),
-        ],
+        "",
+        "4294967294=4294967295 4294967295=4294967295",
     ),
     // One list in two orders.
     (
@@ -66,14 +45,42 @@ static KNOWN: [Known; 11] = [
     ),
 ];
 
+const TEN: &str = "5=1005 10=10 1005=1005";
+
+const TEN_BACK: &str = "1005=5";
+
+const SAME: &str = "0=0 5=5 4294967295=4294967295";
+
+const ORDERED: &str = "22=7 9=1009";
+
+const ORDERED_BACK: &str = "1009=9 5001=2 5002=5002";
+
 #[test]
 fn maps_known_ids(rt: HostRuntime) -> Result<(), Fail> {
     for &(texts, guests, hosts) in &KNOWN {
         let map = users_of(rt.alloc(), texts).ok_or("no map")?;
-        check_guests(&rt, &map, guests);
-        check_hosts(&rt, &map, hosts);
+        for asked in guests.split_whitespace() {
+            let (guest, host) = known(asked)?;
+            let found = map.map_guest(GuestUid::from(guest)).ok();
+            assert!(rt; found == host.map(HostUid::from), "guest {asked}");
+        }
+        for asked in hosts.split_whitespace() {
+            let (host, guest) = known(asked)?;
+            let found = map.map_host(HostUid::from(host)).ok();
+            assert!(rt; found == guest.map(GuestUid::from), "host {asked}");
+        }
     }
     Ok(())
+}
+
+/// A number, and what it becomes.
+fn known(text: &str) -> Result<(u32, Option<u32>), Fail> {
+    let (number, becomes) = text.split_once('=').ok_or("no answer")?;
+    let number = number.parse::<u32>()?;
+    if becomes == "-" {
+        return Ok((number, None));
+    }
+    Ok((number, Some(becomes.parse::<u32>()?)))
 }
 
 /// A number, what it becomes, and the least and the most steps that this may take.
@@ -135,20 +142,6 @@ fn a_forbidden_user_owns_nothing(rt: HostRuntime) -> Result<(), Fail> {
     assert_eq!(rt; owner(&map, GuestUid::from(5)), Some(HostUid::from(1005)));
     assert_eq!(rt; owner(&map, GuestUid::from(10)), None);
     Ok(())
-}
-
-fn check_guests(rt: &impl Abort, map: &Users, guests: &[Becomes]) {
-    for &(n, wanted) in guests {
-        let host = map.map_guest(GuestUid::from(n)).ok();
-        assert!(rt; host == wanted.map(HostUid::from), "guest {n}");
-    }
-}
-
-fn check_hosts(rt: &impl Abort, map: &Users, hosts: &[Becomes]) {
-    for &(n, wanted) in hosts {
-        let guest = map.map_host(HostUid::from(n)).ok();
-        assert!(rt; guest == wanted.map(GuestUid::from), "host {n}");
-    }
 }
 
 fn check_counted(rt: &impl Abort, map: &Users, guests: &[Counted]) {

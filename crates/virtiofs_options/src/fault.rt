@@ -137,13 +137,6 @@ fn refused_text(alloc: Global, option: &str, value: &str) -> Result<String, Allo
     format!(in alloc; "virtiofsd refuses the value {value} of '{option}'\n")
 }
 
-/// The sentence on a guest for which there is nothing to audit.
-fn nothing_text(alloc: Global, guest: usize) -> Result<String, AllocError> {
-    format!(in alloc;
-        "guest {guest}: nothing to audit: no word is 'virtiofsd', and none is an option for ids or names\n"
-    )
-}
-
 /// How the sentence on a value of `--show` ends.
 const NOT_SHOWN: &str = ": it has 'ids' and 'names'";
 
@@ -194,6 +187,8 @@ pub fn fault_text(alloc: Global, fault: Fault<'_>) -> Result<String, AllocError>
         Fault::AtOdds => String::from_str(alloc, AT_ODDS),
         Fault::NotAlone => String::from_str(alloc, NOT_ALONE),
         Fault::Beside => String::from_str(alloc, BESIDE),
-        Fault::Nothing(guest) => nothing_text(alloc, guest),
+        Fault::Nothing(guest) => format!(in alloc;
+            "guest {guest}: nothing to audit: no word is 'virtiofsd', and none is an option for ids or names\n"
+        ),
     }
 }

@@ -204,39 +204,15 @@ const OPTIONS: [Known; 24] = table! {
         "The user who starts the daemon; more than once: of each command line in turn";
     "--subuid": Value, Other, Any, "FILE", "Read FILE in place of /etc/subuid";
     "--subgid": Value, Other, Any, "FILE", "Read FILE in place of /etc/subgid";
-    "--show": Value, Other, Of(&SHOWN), "WHAT", "Show also what becomes of all ids, or of some names";
+    "--show": Value, Other, Of(&["ids", "names"]), "WHAT",
+        "Show also what becomes of all ids, or of some names";
     "--json": Nothing, Other, Any, "", "Write JSON";
     "--quiet": Nothing, Other, Any, "", "Write nothing: the status tells";
     "--mend": Nothing, Other, Any, "", "Write mended options alone, each on a line";
     "--svg": Nothing, Other, Any, "", "Draw what becomes of all ids, as SVG";
-    "--help": Nothing, Tells(Help), Any, "", "";
-    "-h": Nothing, Tells(Help), Any, "", "";
-    "--version": Nothing, Tells(Version), Any, "", "";
-    "-V": Nothing, Tells(Version), Any, "", "";
+    "--help" "-h": Nothing, Tells(Help), Any, "", "";
+    "--version" "-V": Nothing, Tells(Version), Any, "", "";
 };
-
-/// The values of some options.
-const SHOWN: [&str; 2] = ["ids", "names"];
-
-const SANDBOXES: [&str; 3] = ["namespace", "chroot", "none"];
-
-const SECCOMPS: [&str; 4] = ["none", "kill", "log", "trap"];
-
-const HANDLES: [&str; 4] = ["never", "fallback", "prefer", "mandatory"];
-
-const CACHES: [&str; 4] = ["never", "metadata", "auto", "always"];
-
-const LOG_LEVELS: [&str; 6] = ["error", "warn", "info", "debug", "trace", "off"];
-
-const MIGRATIONS: [&str; 2] = ["find-paths", "file-handles"];
-
-const ON_ERRORS: [&str; 2] = ["abort", "guest-error"];
-
-const OLDER_CACHES: [&str; 4] = ["none", "metadata", "auto", "always"];
-
-const OLDER_LOG_LEVELS: [&str; 4] = ["err", "warn", "info", "debug"];
-
-const OLDER_SANDBOXES: [&str; 2] = ["namespace", "chroot"];
 
 /// The options of virtiofsd 1.13.2.
 const OPTIONS_OF_DAEMON: [Known; 45] = table! {
@@ -246,7 +222,7 @@ const OPTIONS_OF_DAEMON: [Known; 45] = table! {
     "--gid-map": Value, GidMap, Any;
     "--xattrmap": Value, Xattrmap, Any;
     "--posix-acl": Nothing, AclFlag, Any;
-    "--sandbox": Value, Sandbox, AnyCase(&SANDBOXES);
+    "--sandbox": Value, Sandbox, AnyCase(&["namespace", "chroot", "none"]);
     "-o": Value, Older, Any;
     "--fd": Value, Fd, Any;
     "--socket" "--socket-path": Value, Socket, Any;
@@ -258,12 +234,12 @@ const OPTIONS_OF_DAEMON: [Known; 45] = table! {
     "--print-capabilities": Nothing, Prints, Any;
     "--tag": Value, Other, Tag;
     "--thread-pool-size" "--rlimit-nofile": Value, Other, Digits;
-    "--seccomp": Value, Other, Of(&SECCOMPS);
-    "--inode-file-handles": AfterEquals, Other, Of(&HANDLES);
-    "--cache": Value, Other, AnyCase(&CACHES);
-    "--log-level": Value, Other, AnyCase(&LOG_LEVELS);
-    "--migration-mode": Value, Other, Of(&MIGRATIONS);
-    "--migration-on-error": Value, Other, Of(&ON_ERRORS);
+    "--seccomp": Value, Other, Of(&["none", "kill", "log", "trap"]);
+    "--inode-file-handles": AfterEquals, Other, Of(&["never", "fallback", "prefer", "mandatory"]);
+    "--cache": Value, Other, AnyCase(&["never", "metadata", "auto", "always"]);
+    "--log-level": Value, Other, AnyCase(&["error", "warn", "info", "debug", "trace", "off"]);
+    "--migration-mode": Value, Other, Of(&["find-paths", "file-handles"]);
+    "--migration-on-error": Value, Other, Of(&["abort", "guest-error"]);
     "--shared-dir" "--modcaps": Value, Other, Any;
     "--xattr": Nothing, Turns(Xattr, true), Any;
     "--announce-submounts" "--no-announce-submounts" "--allow-mmap" "--no-readdirplus" "--writeback"
@@ -278,11 +254,11 @@ const OLDER_OPTIONS: [Known; 23] = table! {
     "xattrmap=": Value, Xattrmap, NoEquals;
     "posix_acl": Nothing, Turns(Acl, true), Any;
     "no_posix_acl": Nothing, Turns(Acl, false), Any;
-    "sandbox=": Value, Sandbox, Of(&OLDER_SANDBOXES);
+    "sandbox=": Value, Sandbox, Of(&["namespace", "chroot"]);
     "source=": Value, Other, NoEquals;
     "modcaps=": Value, Other, NoEquals;
-    "cache=": Value, Other, Of(&OLDER_CACHES);
-    "loglevel=": Value, Other, Of(&OLDER_LOG_LEVELS);
+    "cache=": Value, Other, Of(&["none", "metadata", "auto", "always"]);
+    "loglevel=": Value, Other, Of(&["err", "warn", "info", "debug"]);
     "xattr": Nothing, Turns(Xattr, true), Any;
     "no_xattr": Nothing, Turns(Xattr, false), Any;
     "readdirplus" "no_readdirplus" "writeback" "no_writeback" "allow_direct_io"

@@ -1,6 +1,6 @@
 //! Which of two audits of the same guests finds less.
 ghost use Rattle.std.specs.Prelude.{◌≡◌, ◌↔◌, IsTrue};
-ghost use Rattle.virtiofs_findings.specs.Advice.{ids_of, first_ids, second_ids, ids_found, LiesIn, AllLieIn, IsAlike, IsWithin, IsNew, HasNew, FindsLess};
+ghost use Rattle.virtiofs_findings.specs.Advice.{ids_of, first_ids, second_ids, ids_found, lies_in, lies_in_any, all_lie_in, IsAlike, IsWithin, IsNew, HasNew, FindsLess};
 ghost use Rattle.virtiofs_findings.specs.Lists.{AnyHas};
 
 use crate::audit::is_accepted;
@@ -54,33 +54,23 @@ fn second_ids<A: Allocator>(evidence: &Evidence<A>) -> &[Span]
 
 /// Whether a span lies in another one.
 fn lies_in(span: &Span, other: &Span) -> bool
-    ensures { IsTrue result ↔ LiesIn span.now other.now }
+    ensures { result ≡ lies_in span.now other.now }
 {
     other.first <= span.first && span.last <= other.last
 }
 
 /// Whether a span lies in one of these.
 fn lies_in_any(span: &Span, others: &[Span]) -> bool
-    ensures { IsTrue result ↔ AnyHas (LiesIn span.now) others.now }
+    ensures { result ≡ lies_in_any span.now others.now }
 {
-    for other in others {
-        if lies_in(span, other) {
-            return true;
-        }
-    }
-    false
+    others.iter().any(|other| lies_in(span, other))
 }
 
 /// Whether each of the spans does.
 fn all_lie_in(others: &[Span], spans: &[Span]) -> bool
-    ensures { IsTrue result ↔ AllLieIn others.now spans.now }
+    ensures { result ≡ all_lie_in others.now spans.now }
 {
-    for span in spans {
-        if !lies_in_any(span, others) {
-            return false;
-        }
-    }
-    true
+    spans.iter().all(|span| lies_in_any(span, others))
 }
 
 /// Whether it says what the other says, of the same guests, and of ids of the same kind.

@@ -7,13 +7,13 @@ use Rattle.std.proofs.lemmas.Bool.{cases_lt}
 use Rattle.std.proofs.lemmas.Bool.Decides.{nat_tests}
 use Rattle.std.proofs.lemmas.List.{get_or-drop, get_or-take, length-drop, length-take}
 use Rattle.std.proofs.lemmas.List.Elements.{All-drop}
-use Rattle.virtiofs_id_audit.specs.IdAuditParts.{Has, Hold, AreApart}
+use Rattle.virtiofs_id_audit.specs.IdAudit.{Has, Hold, AreRuns}
 use Rattle.virtiofs_id_audit.specs.declared.spans.Span.{Span}
 
 -- ---- spans that are apart
 
-pub AreApart-drop : (n : ℕ) (spans : List Span) → AreApart spans → AreApart (drop n spans)
-AreApart-drop n spans are = search (rules, All-drop, length-drop, get_or-drop)
+pub AreRuns-drop : (n : ℕ) (spans : List Span) → AreRuns spans → AreRuns (drop n spans)
+AreRuns-drop n spans are = search (rules, All-drop, length-drop, get_or-drop)
 
 -- ---- those that have an id of the whole
 

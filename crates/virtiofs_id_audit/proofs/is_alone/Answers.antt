@@ -5,9 +5,8 @@ use Rattle.virtiofs_id_audit.proofs.is_alone.Goals as goal
 
 pub returns-in_default-clause-answer : goal.returns-in_default-clause-answer
 returns-in_default-clause-answer g c =
-    let twice = rw c.deref.ensures.value at c.in_ok-twice.ensures.again in
-    IsLeastIfAny-shared _ _ _ c.in_ok-images.ensures twice None
-    (rw c.deref-2.ensures.value at c.in_default.ensures.least)
+    IsLeastIfAny-shared c.args.map.now c.in_ok-images.images.items _ c.in_ok-images.ensures (rw c.deref.ensures.value at c.in_ok-twice.ensures) None
+    (rw (c.in_default.is, c.deref-2.ensures.value) at c.in_ok-guest.ensures)
 
 pub returns-in_default-clause-alone : goal.returns-in_default-clause-alone
 returns-in_default-clause-alone g c =
@@ -15,16 +14,14 @@ returns-in_default-clause-alone g c =
 
 pub sharing-requires : goal.sharing-requires
 sharing-requires g c =
-    let twice = rw c.deref.ensures.value at c.in_ok-twice.ensures.again in
-    IsLeastIfAny-shared _ _ _ c.in_ok-images.ensures twice (Some c.in-Some.n)
-    (rw c.deref-2.ensures.value at c.in-Some.ensures.least)
+    IsLeastIfAny-shared c.args.map.now c.in_ok-images.images.items _ c.in_ok-images.ensures (rw c.deref.ensures.value at c.in_ok-twice.ensures)
+    (Some (g.Guest.Id.number c.in-Some.guest)) (rw (c.in-Some.is, c.deref-2.ensures.value) at c.in_ok-guest.ensures)
 
 pub returns-clause-answer : goal.returns-clause-answer
 returns-clause-answer g c =
-    let twice = rw c.deref.ensures.value at c.in_ok-twice.ensures.again in
     rw c.sharing.ensures.guest
-    (IsLeastIfAny-shared _ _ _ c.in_ok-images.ensures twice (Some c.in-Some.n)
-    (rw c.deref-2.ensures.value at c.in-Some.ensures.least))
+    (IsLeastIfAny-shared c.args.map.now c.in_ok-images.images.items _ c.in_ok-images.ensures (rw c.deref.ensures.value at c.in_ok-twice.ensures)
+    (Some (g.Guest.Id.number c.in-Some.guest)) (rw (c.in-Some.is, c.deref-2.ensures.value) at c.in_ok-guest.ensures))
 
 pub returns-clause-alone : goal.returns-clause-alone
 returns-clause-alone g c =

@@ -14,17 +14,9 @@ use Rattle.virtiofs_map.specs.declared.cmdline.IdMap.{IdMap}
 use Rattle.virtiofs_map.specs.declared.soft_idmap.entry.Direction.{Direction}
 use Rattle.virtiofs_map.specs.declared.soft_idmap.entry.Direction.TheVariants.{GuestToHost, HostToGuest}
 use Rattle.virtiofs_map.specs.declared.soft_idmap.entry.Entry.{Entry}
-use Rattle.virtiofs_map.proofs.ForCallers.{Becomes-forbidden, Becomes-one}
+use Rattle.virtiofs_id_audit.proofs.RoundTripLemmas.{covered_maps, only}
 
--- ---- what is covered is mapped to something
-
-pub covered_maps : (spec : IdMap) (direction : Direction) (n : ℕ) → Covers spec direction n
-    → (value : Option ℕ) × Maps spec direction n value
-covered_maps spec direction n covers = by (entry_of spec direction) covers where
-  by : (o : Option Entry) → IsSomeAnd o (λ entry. EntryCovers entry n)
-      → (value : Option ℕ) × IsSomeAnd o (λ entry. EntryCovers entry n × (target_of entry n ≡ value))
-  by None covers = absurd covers
-  by (Some entry) covers = (target_of entry n, (covers, refl))
+-- ---- what is listed
 
 -- where no specification maps the number, none covers it
 pub none_covers : (specs : List IdMap) (direction : Direction) (n : ℕ)
@@ -36,9 +28,6 @@ none_covers specs direction n none spec listed covers =
 
 -- ---- one specification
 
-pub only : (spec other : IdMap) → Contains (spec ∷ []) other → other ≡ spec
-only spec other listed = search (rules, All-contains, All-cons, All-nil)
-
 pub Listed-one : (spec : IdMap) (direction : Direction) (n : ℕ) (value : Option ℕ)
     → Listed (spec ∷ []) direction n value ↔ Maps spec direction n value
 Listed-one spec direction n value = search (rules, only)
@@ -46,50 +35,6 @@ Listed-one spec direction n value = search (rules, only)
 pub Accepted-one : (spec : IdMap) → ((direction : Direction) → IfSome (entry_of spec direction) HasSource)
     → ((direction : Direction) → IfSome (entry_of spec direction) HasTarget) → Accepted (spec ∷ [])
 Accepted-one spec source target = search (rules, All-nil)
-
--- ---- every number becomes something
-
-covers_or_not : (spec : IdMap) (direction : Direction) (n : ℕ) → Covers spec direction n ⊎ (¬ Covers spec direction n)
-covers_or_not spec direction n = by (entry_of spec direction) where
-  by : (o : Option Entry)
-      → IsSomeAnd o (λ entry. EntryCovers entry n) ⊎ (¬ IsSomeAnd o (λ entry. EntryCovers entry n))
-  by None = inr (λ covers. covers)
-  by (Some entry) = search (rules, cases_lt)
-
-one_covers_or_none : (specs : List IdMap) (direction : Direction) (n : ℕ)
-    → ((spec : IdMap) × Contains specs spec × Covers spec direction n)
-    ⊎ ((spec : IdMap) → Contains specs spec → ¬ Covers spec direction n)
-one_covers_or_none [] direction n = inr (λ spec (k, inside, here). absurd (omega arith))
-one_covers_or_none (spec ∷ specs) direction n =
-    elim (covers_or_not spec direction n) [
-      | inl covers ↦ inl (spec, (0, omega arith, refl), covers)
-      | inr not ↦ elim (one_covers_or_none specs direction n) [
-        | inl (other, listed, covers) ↦
-            inl (other, Contains-append_right (spec ∷ []) specs other listed, covers)
-        | inr none ↦ search (rules, Contains-append_cases, only)
-      ]
-    ]
-
-becomes_some : (specs : List IdMap) (direction : Direction) (n : ℕ) → (value : Option ℕ) × Becomes specs direction n value
-becomes_some specs direction n =
-    elim (one_covers_or_none specs direction n) [
-      | inl (spec, listed, covers) ↦ search (rules, covered_maps)
-      | inr none ↦ (Some n, inr (none, refl))
-    ]
-
--- so what cannot but lead back does
-pub LeadsBack-stable : (specs : List IdMap) (guest host : ℕ) → Accepted specs
-    → ¬ (¬ LeadsBack specs GuestToHost guest host) → LeadsBack specs GuestToHost guest host
-LeadsBack-stable specs guest host accepted not =
-    let (value, becomes) = becomes_some specs HostToGuest host in
-    by value becomes where
-      by : (value : Option ℕ) → Becomes specs HostToGuest host value → LeadsBack specs GuestToHost guest host
-      by None becomes = search (rules, Becomes-forbidden)
-      by (Some back) becomes =
-          elim (cases_eq back guest) [
-            | inl same ↦ rw same at becomes
-            | inr differ ↦ search (rules, Becomes-one)
-          ]
 
 -- ---- two lists
 

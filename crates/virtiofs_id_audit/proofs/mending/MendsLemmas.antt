@@ -6,8 +6,7 @@ use Rattle.std.proofs.lemmas.List.{get_or_default, get_or-take, length-take, nil
 use Rattle.std.proofs.lemmas.List.{append-nil}
 use Rattle.std.proofs.lemmas.List.Elements.{All-contains, Contains-append_left, Contains-append_cases, Contains-push}
 use Rattle.std.proofs.lemmas.List.Elements.{Contains-push_cases}
-use Rattle.virtiofs_id_audit.specs.IdAudit.{GoesTo, ComesBack, IsAlone, AreRuns}
-use Rattle.virtiofs_id_audit.specs.IdAuditParts.{Has, Hold}
+use Rattle.virtiofs_id_audit.specs.IdAudit.{GoesTo, ComesBack, IsAlone, Has, Hold, AreRuns}
 use Rattle.virtiofs_id_audit.specs.Mending.{IsBad, Mends, EndsWith, OneEndsWith, IsEdge, IsShort, IsClean, StandsBefore}
 use Rattle.virtiofs_id_audit.specs.Mending.{KeepsClean}
 use Rattle.virtiofs_id_audit.specs.MendingParts.{AreCut, AreParts, IsRemnant, Listed, Stays}
@@ -22,8 +21,8 @@ use Rattle.virtiofs_map.specs.declared.soft_idmap.entry.Direction.TheVariants.{G
 use Rattle.virtiofs_id_audit.proofs.ApartLemmas.{free_after, held_or_not}
 use Rattle.virtiofs_id_audit.proofs.mending.ListedLemmas.{StandsBefore-append, StandsBefore-push}
 use Rattle.virtiofs_id_audit.proofs.mending.ListedLemmas.{StandsBefore-push_cases, Accepted-append, KeepApart}
-use Rattle.virtiofs_id_audit.proofs.mending.ListedLemmas.{Listed-append, Listed-one, LeadsBack-stable, covered_maps}
-use Rattle.virtiofs_id_audit.proofs.mending.ListedLemmas.{none_covers}
+use Rattle.virtiofs_id_audit.proofs.mending.ListedLemmas.{Listed-append, Listed-one, none_covers}
+use Rattle.virtiofs_id_audit.proofs.RoundTripLemmas.{LeadsBack-stable, covered_maps}
 use Rattle.virtiofs_map.proofs.ForCallers.{Becomes-forbidden, Becomes-one, Covers-maps}
 
 -- ---- one specification more, cut

@@ -4,10 +4,10 @@ use Rattle.virtiofs_id_audit.proofs.reaches.Goals as goal
 
 pub returns-in_default : goal.returns-in_default
 returns-in_default g c =
-    let least = IsLeastIfAny-range _ _ None c.in_default.ensures.least in
+    let least = IsLeastIfAny-range _ _ None c.in_default.ensures in
     rw (c.number_of.ensures, c.number_of-2.ensures) at least
 
 pub returns : goal.returns
 returns g c =
-    let least = IsLeastIfAny-range _ _ (Some c.in-Some.n) c.in-Some.ensures.least in
+    let least = IsLeastIfAny-range _ _ (Some c.in-Some.n) c.in-Some.ensures in
     rw c.id_of.ensures (rw (c.number_of.ensures, c.number_of-2.ensures) at least)

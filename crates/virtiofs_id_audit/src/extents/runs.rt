@@ -1,14 +1,13 @@
 //! Neighbouring ids of the guest that are all sought, or of which none is.
 ghost use Rattle.std.specs.Prelude.{◌≡◌, ◌<◌, ◌≤◌};
-ghost use Rattle.std.specs.List.Sorted.{IsNonDecreasing};
-ghost use Rattle.virtiofs_id_audit.specs.ExtentParts.{IsSought, of_bad, IsRun, AreStarts, BecomesOne};
-ghost use Rattle.virtiofs_id_audit.specs.IdAudit.{IsAstray, GoesInto};
-ghost use Rattle.virtiofs_id_audit.specs.IdAuditParts.{Hold, AreInOrder, IsMoved};
+ghost use Rattle.virtiofs_id_audit.specs.ExtentParts.{IsSought, of_bad, IsRun, AreStarts};
+ghost use Rattle.virtiofs_id_audit.specs.IdAudit.{IsAstray, GoesInto, Hold, AreRuns};
+ghost use Rattle.virtiofs_id_audit.specs.IdAuditParts.{BecomesOne, IsMoved};
+ghost use Rattle.virtiofs_map.specs.Build.{Accepted};
 ghost use Rattle.virtiofs_map.specs.Pieces.{IsNamed};
 
-use crate::extents::starts::next_start;
 use crate::round_trips::round_trip;
-use crate::spans::{Span, first_from};
+use crate::spans::{Run, Span, run_in};
 use std::alloc::Allocator;
 use virtiofs_map::id_types::{GuestId, HostId};
 use virtiofs_map::soft_idmap::{Direction, IdMap, Outcome, Piece};
@@ -25,45 +24,13 @@ pub(crate) enum Sought {
 }
 
 /// The greatest id of the guest.
-const GREATEST: u32 = u32::MAX - 1;
-
-/// Neighbouring numbers, from some number on, all of which are of some kind, or none.
-#[derive(Clone, Copy)]
-pub(crate) struct Run {
-    /// The last of them.
-    pub(crate) last: u32,
-    /// Whether all are of the kind; else none is.
-    pub(crate) all: bool,
-}
-
-/// The ids from one on, as far as the spans have all of them, or none.
-fn run_in(spans: &[Span], id: u32) -> Run
-    requires { AreInOrder spans.now }
-    ensures { IsRun (Hold spans.now) id 4294967295 result }
-{
-    let Some(span) = first_from(spans, id) else {
-        return Run {
-            last: u32::MAX,
-            all: false,
-        };
-    };
-    if id < span.first {
-        return Run {
-            last: span.first - 1,
-            all: false,
-        };
-    }
-    Run {
-        last: span.last,
-        all: true,
-    }
-}
+pub(crate) const GREATEST: u32 = u32::MAX - 1;
 
 /// The first numbers of a piece, as far as all of them become ids of the spans, or none does.
 fn run_becoming(piece: Piece, spans: &[Span]) -> Run
     requires order { piece.first ≤ piece.last }
     requires named { IsNamed piece.becomes piece.first piece.last }
-    requires spans { AreInOrder spans.now }
+    requires spans { AreRuns spans.now }
     ensures { IsRun (BecomesOne piece (Hold spans.now)) piece.first piece.last result }
 {
     let Some(to) = piece.start() else {
@@ -103,16 +70,34 @@ fn run_moved(piece: Piece) -> Run
 }
 
 /// The ids of the guest from `n` on, as far as all of them become ids of the spans, or none does.
-fn run_into<Guest: GuestId<HostType = Host>, Host: HostId<GuestType = Guest>, A: Allocator>(
-    map: &IdMap<Guest, Host, A>,
-    n: u32,
-    spans: &[Span],
-) -> Run
+pub(crate) fn run_into<
+    Guest: GuestId<HostType = Host>,
+    Host: HostId<GuestType = Guest>,
+    A: Allocator,
+>(map: &IdMap<Guest, Host, A>, n: u32, spans: &[Span]) -> Run
     requires is_id { n < 4294967295 }
-    requires spans { AreInOrder spans.now }
+    requires spans { AreRuns spans.now }
     ensures { IsRun (GoesInto map.now (Hold spans.now)) n 4294967294 result }
 {
     let run = run_becoming(map.stretch(Direction::GuestToHost, n), spans);
+    Run {
+        last: run.last.min(GREATEST),
+        all: run.all,
+    }
+}
+
+/// The ids of the guest from `n` on, as far as one way there and back says that all of them are
+/// astray, or none.
+pub(crate) fn run_trip<
+    Guest: GuestId<HostType = Host>,
+    Host: HostId<GuestType = Guest>,
+    A: Allocator,
+>(map: &IdMap<Guest, Host, A>, n: u32) -> Run
+    requires { n < 4294967295 }
+    ensures accepted { Accepted map.now }
+    ensures run { IsRun (IsAstray map.now) n 4294967294 result }
+{
+    let run = run_moved(round_trip(map, n));
     Run {
         last: run.last.min(GREATEST),
         all: run.all,
@@ -126,23 +111,21 @@ fn run_into<Guest: GuestId<HostType = Host>, Host: HostId<GuestType = Guest>, A:
 fn run_astray<Guest: GuestId<HostType = Host>, Host: HostId<GuestType = Guest>, A: Allocator>(
     map: &IdMap<Guest, Host, A>,
     n: u32,
-    starts: &[u32],
+    starts: &[Span],
 ) -> Run
     requires is_id { n < 4294967295 }
-    requires order { IsNonDecreasing starts.now }
+    requires runs { AreRuns starts.now }
     requires starts { AreStarts map.now starts.now }
     ensures { IsRun (IsAstray map.now) n 4294967294 result }
 {
     let there = map.stretch(Direction::GuestToHost, n);
-    let moved = run_moved(round_trip(map, n));
-    if !moved.all || !there.is_one_to_one() {
-        return Run {
-            last: moved.last.min(GREATEST),
-            all: moved.all,
-        };
+    let run = run_trip(map, n);
+    let next = run_in(starts, n + 1);
+    if !run.all || next.all || !there.is_one_to_one() {
+        return run;
     }
     Run {
-        last: there.last.min(next_start(starts, n) - 1),
+        last: there.last.min(next.last).min(GREATEST),
         all: true,
     }
 }
@@ -157,13 +140,13 @@ fn run_astray_or<Guest: GuestId<HostType = Host>, Host: HostId<GuestType = Guest
     map: &IdMap<Guest, Host, A>,
     bad: bool,
     n: u32,
-    starts: &[u32],
+    starts: &[Span],
     hosts: &[Span],
 ) -> Run
     requires is_id { n < 4294967295 }
-    requires order { IsNonDecreasing starts.now }
+    requires runs { AreRuns starts.now }
     requires starts { AreStarts map.now starts.now }
-    requires spans { AreInOrder hosts.now }
+    requires spans { AreRuns hosts.now }
     ensures { IsRun (IsSought (of_bad bad) map.now (Hold hosts.now)) n 4294967294 result }
 {
     let astray = run_astray(map, n, starts);
@@ -182,11 +165,11 @@ pub(crate) fn run_of<
     Guest: GuestId<HostType = Host>,
     Host: HostId<GuestType = Guest>,
     A: Allocator,
->(map: &IdMap<Guest, Host, A>, sought: Sought, n: u32, starts: &[u32], hosts: &[Span]) -> Run
+>(map: &IdMap<Guest, Host, A>, sought: Sought, n: u32, starts: &[Span], hosts: &[Span]) -> Run
     requires is_id { n < 4294967295 }
-    requires order { IsNonDecreasing starts.now }
+    requires runs { AreRuns starts.now }
     requires starts { AreStarts map.now starts.now }
-    requires spans { AreInOrder hosts.now }
+    requires spans { AreRuns hosts.now }
     ensures { IsRun (IsSought sought map.now (Hold hosts.now)) n 4294967294 result }
 {
     match sought {

@@ -1,6 +1,6 @@
 //! What is left of a specification where ids of the guest are cut out of it.
 ghost use Rattle.std.specs.Prelude.{◌≡◌, ◌⊎◌, ◌≤◌, ℕ, List, [], ◌∷◌, ◌++◌, All, Contains, IsSomeAnd, IfSome, OnOk, MatchOption};
-ghost use Rattle.virtiofs_id_audit.specs.IdAuditParts.{Hold, AreApart};
+ghost use Rattle.virtiofs_id_audit.specs.IdAudit.{Hold, AreRuns};
 ghost use Rattle.virtiofs_id_audit.specs.MendingParts.{IsPart, AreParts, AreCut, IsRemnant, IsHostHalf, HasNoHostHalf};
 ghost use Rattle.virtiofs_map.specs.Build.{Accepted, HasSource, HasTarget};
 ghost use Rattle.virtiofs_map.specs.Mapping.{entry_of, EntryCovers, Covers};
@@ -56,7 +56,7 @@ pub(crate) fn push_parts<A: Allocator>(
     spec: IdMap,
     spans: &[Span],
 ) -> Result<(), AllocError>
-    requires apart { AreApart spans.now }
+    requires runs { AreRuns spans.now }
     requires inside { All (λ span. IsSomeAnd (entry_of spec GuestToHost) (λ entry.
         EntryCovers entry span.first × EntryCovers entry span.last)) spans.now }
     requires source { IfSome (entry_of spec GuestToHost) HasSource }
@@ -92,7 +92,7 @@ pub(crate) fn push_cut<A: Allocator>(
     bad: &[Span],
 ) -> Result<(), AllocError>
     requires accepted { Accepted (spec ∷ []) }
-    requires apart { AreApart bad.now }
+    requires runs { AreRuns bad.now }
     ensures cut { OnOk result ((parts : List Specification)
         × (out.new.items ≡ out.old.items ++ parts) × AreCut (spec ∷ []) (Hold bad.now) parts) }
     ensures remnants { OnOk result ((remnant : Specification)

@@ -8,8 +8,9 @@ use Rattle.std.proofs.lemmas.List.Sorted.{Contains-permutation, length_permutati
 use Rattle.std.proofs.lemmas.List.Sums.{sum_by-cons}
 use Rattle.std.proofs.lemmas.Nat.{mul-le}
 use Rattle.std.proofs.lemmas.Option.{slice_get_within, get_or_from_slice_get}
-use Rattle.virtiofs_map.specs.AuditParts.{TriedSoFar, Tries, none_tried, parts, LedTo, IsRest, IsLiveWhole, IsOneByte}
+use Rattle.virtiofs_map.specs.AuditParts.{TriedSoFar, Tries, none_tried, parts, LedTo, IsLiveRest, IsLiveWhole, IsOneByte, IsWhole}
 use Rattle.virtiofs_map.specs.AuditParts.{IsTried, most_guest_names}
+use Rattle.virtiofs_map.specs.NamesImage.{IsImage, image_length, pattern_bytes}
 use Rattle.virtiofs_map.specs.Rule.{MappingRule}
 use Rattle.virtiofs_map.specs.Steps.{count_after, CountsBetween}
 use Rattle.virtiofs_map.specs.declared.audit.gathered.Part.TheVariants.{Key, Added, Host}
@@ -57,6 +58,19 @@ gathered_none f rules i rule names end found here h e none =
     ap (λ xs. xs ++ filter_map f (drop (i + 1) rules)) (sym (append-nil names))
     ∙ gathered_more f rules i rule names end None here h (sym none ∙ e)
 
+-- the patterns of a map have no more bytes than the map
+pub bytes_within : (rules : List MappingRule) (image : List ℕ) → IsImage rules image
+    → pattern_bytes rules ≤ length image
+unfolding image_length
+bytes_within rules image is = omega (arith, is.last, is.ended.within)
+
+pub bytes_left : (rules : List MappingRule) (i : ℕ) (rule : MappingRule) → Some rule ≡ slice_get rules i
+    → pattern_bytes (drop i rules) ≡ length rule.key + length rule.prepend + pattern_bytes (drop (i + 1) rules)
+bytes_left rules i rule here =
+    at_drop_more pattern_bytes rules i rule (slice_get_within rules i rule (sym here))
+    ∙ ap (λ one. length one.key + length one.prepend + pattern_bytes (drop (i + 1) rules))
+    (get_or_from_slice_get rules i rule rule (sym here))
+
 -- ---- how many are gathered
 
 one_or_none : (o : Option (List ℕ)) (n : ℕ) (names : List (List ℕ)) → length (cons_option o []) ≤ n
@@ -87,13 +101,13 @@ few_guest_names side others rules keys all_added patterns are_keys are_added are
 -- the beginning, the first names, those that others lead to, and those of one byte
 tries_all : {Bad led : List ℕ → Type 0} {m n most : ℕ} (beginning : List ℕ) (firsts : List (List ℕ))
     (start one two three end : TriedSoFar) → start ≡ none_tried → Tries Bad (λ name. name ≡ beginning) 0 start one
-    → Tries Bad (IsRest firsts []) m one two → Tries Bad led n two three → Tries Bad IsOneByte 255 three end
-    → m + n + 255 ≤ most → Tries Bad (IsTried beginning (λ name. IsRest firsts [] name ⊎ led name)) most none_tried end
+    → Tries Bad (IsWhole firsts []) m one two → Tries Bad led n two three → Tries Bad IsOneByte 255 three end
+    → m + n + 255 ≤ most → Tries Bad (IsTried beginning (λ name. IsWhole firsts [] name ⊎ led name)) most none_tried end
 tries_all {Bad = Bad} {led = led} {m = m} {n = n} beginning firsts start one two three end e begun first then bytes
     few =
-    let both : Tries Bad (λ name. IsRest firsts [] name ⊎ led name) (m + n) one three =
+    let both : Tries Bad (λ name. IsWhole firsts [] name ⊎ led name) (m + n) one three =
     tries_join first then (λ name is. is) (omega arith) in
-    let more : Tries Bad (λ name. (IsRest firsts [] name ⊎ led name) ⊎ IsOneByte name) (m + n + 255) one end =
+    let more : Tries Bad (λ name. (IsWhole firsts [] name ⊎ led name) ⊎ IsOneByte name) (m + n + 255) one end =
     tries_join both bytes (λ name is. is) (omega arith) in
     tries_join (subst (λ s. Tries Bad (λ name. name ≡ beginning) 0 s one) e begun) more (λ name is. is) (omega arith)
 
@@ -101,8 +115,8 @@ pub guest_tries : (Bad : List ℕ → Type 0) (side : Side) (rules others : List
     (keys all_added patterns : List (List ℕ)) (start one two three end : TriedSoFar) → start ≡ none_tried
     → IsPermutation (parts Key rules) keys
     → IsPermutation (parts (Added Client) rules) all_added → IsPermutation (parts (Host side) others) patterns
-    → Tries Bad (λ name. name ≡ beginning) 0 start one → Tries Bad (IsRest keys []) (length keys) one two
-    → Tries Bad (LedTo all_added (IsRest patterns)) (length all_added * length patterns) two three
+    → Tries Bad (λ name. name ≡ beginning) 0 start one → Tries Bad (IsWhole keys []) (length keys) one two
+    → Tries Bad (LedTo all_added (IsLiveRest rules patterns)) (length all_added * length patterns) two three
     → Tries Bad IsOneByte 255 three end
     → Tries Bad (GuestTried side rules others beginning) (most_guest_names side others rules) none_tried end
 guest_tries Bad side rules others beginning keys all_added patterns start one two three end e are_keys are_added
@@ -126,13 +140,13 @@ pub host_tries : (Bad : List ℕ → Type 0) (rules : List MappingRule) (beginni
     (prepends cuts keys : List (List ℕ)) (start one two three end : TriedSoFar) → start ≡ none_tried
     → IsPermutation (parts (Host Server) rules) prepends → IsPermutation (parts (Added Server) rules) cuts
     → IsPermutation (parts Key rules) keys → Tries Bad (λ name. name ≡ beginning) 0 start one
-    → Tries Bad (IsRest prepends []) (length prepends) one two
+    → Tries Bad (IsWhole prepends []) (length prepends) one two
     → Tries Bad (LedTo cuts (IsLiveWhole rules keys)) (length cuts * length keys) two three
     → Tries Bad IsOneByte 255 three end
     → Tries Bad (HostTried rules beginning) (length prepends + length cuts * length keys + 255) none_tried end
 host_tries Bad rules beginning prepends cuts keys start one two three end e are_prepends are_cuts are_keys begun first
     then bytes =
-    let all : Tries Bad (IsTried beginning (λ name. IsRest prepends [] name ⊎ LedTo cuts (IsLiveWhole rules keys) name))
+    let all : Tries Bad (IsTried beginning (λ name. IsWhole prepends [] name ⊎ LedTo cuts (IsLiveWhole rules keys) name))
     (length prepends + length cuts * length keys + 255) none_tried end =
     tries_all beginning prepends start one two three end e begun first then bytes (omega arith) in
     tries_fewer all

@@ -1,19 +1,18 @@
 -- The least bad name of those tried is the least of all, where each bad name has a bad front that is tried.
-use Rattle.std.proofs.Common.{◌≡◌, ◌↔◌, ◌⊎◌, ℕ, ◌+◌, ◌≤◌, true, false, List, [], ◌∷◌, ◌++◌}
-use Rattle.std.proofs.Common.{Option, Some, Result, refl, subst, arith}
+use Rattle.std.proofs.Common.{◌≡◌, ◌↔◌, ◌⊎◌, ℕ, zero, suc, ◌+◌, ◌≤◌, true, false, List, [], ◌∷◌, ◌++◌, length}
+use Rattle.std.proofs.Common.{Option, Some, Result, refl, subst, ap, arith}
 use Rattle.std.specs.Ordering.{is_lt}
 use Rattle.std.specs.Result.{IfOk}
 use Rattle.std.specs.declared.cmp.Ordering.{Ordering}
 use Rattle.std.specs.declared.cmp.Ordering.TheVariants.{Less}
 use Rattle.std.proofs.lemmas.Bool.{false≢true, true≢false}
+use Rattle.std.proofs.lemmas.List.{length-append}
 use Rattle.std.proofs.lemmas.Cmp.{nat_list_cmp_total, tied_itself}
 use Rattle.virtiofs_map.specs.Audit.{IsBefore, AnswersLeast, Within}
 use Rattle.virtiofs_map.specs.AuditParts.{TriedSoFar, none_tried, is_first, told, Handled, Tries}
-use Rattle.virtiofs_map.specs.Names.{begins}
 use Rattle.virtiofs_map.specs.Steps.{count_after}
 use Rattle.virtiofs_map.specs.declared.audit.answer.Audit.{Audit}
 use Rattle.virtiofs_map.specs.declared.audit.answer.Audit.TheVariants.{Yes, No}
-use Rattle.virtiofs_map.proofs.BeginsLemmas.{begins_split}
 
 -- ---- byte order
 
@@ -24,10 +23,6 @@ before_by [] (x ∷ rest) [] e = absurd (cc)
 before_by [] rest (y ∷ other) e = refl
 before_by (x ∷ p) rest [] e = absurd (cc)
 before_by (x ∷ p) rest (y ∷ other) e = grind (arith, before_by p rest other)
-
-front_before : (p name other : List ℕ) → begins p name ≡ true → IsBefore name other → IsBefore p other
-front_before p name other b e =
-    before_by p _ other (subst (λ n. IsBefore n other) (begins_split p name b) e)
 
 pub is_lt-true : (o : Ordering) → is_lt o ≡ true → o ≡ Less
 is_lt-true o e = grind (arith, false≢true)
@@ -77,18 +72,42 @@ tries_fewer tries cover l = grind arith
 
 -- ---- the answer
 
--- a bad front of the name is tried
-pub record HasBadFront (Bad tried : List ℕ → Type 0) (name : List ℕ) : Type 0 where
-  pub by : List ℕ
-  pub is_front : begins by name ≡ true
-  pub is_bad : Bad by
-  pub is_tried : tried by
+-- of a bad name that is not tried, what is left without its last byte is bad
+pub record Shortens (Bad tried : List ℕ → Type 0) : Type 0 where
+  pub empty : Bad [] → tried []
+  pub less : (front : List ℕ) (last : ℕ) → Bad (front ++ last ∷ []) → ¬ tried (front ++ last ∷ []) → Bad front
+
+last_byte : (x : ℕ) (xs : List ℕ) → (front : List ℕ) × (last : ℕ) × (x ∷ xs ≡ front ++ last ∷ [])
+last_byte x [] = ([], x, refl)
+last_byte x (y ∷ ys) = let (front, last, e) = last_byte y ys in (x ∷ front, last, ap (λ more. x ∷ more) e)
+
+-- so no bad name comes before the least of those that were tried
+none_before : (Bad tried : List ℕ → Type 0) (least : Option (List ℕ)) → Shortens Bad tried
+    → ((name : List ℕ) → tried name → Handled Bad least name) → (n : ℕ) (name : List ℕ) → length name ≡ n → Bad name
+    → ((found : List ℕ) → least ≡ Some found → IsBefore name found) → ⊥
+none_before Bad tried least shorter handled n [] long bad early =
+    let (found, some, late) = handled [] (shorter.empty bad) bad in late (early found some)
+none_before Bad tried least shorter handled zero (x ∷ xs) long bad early = omega arith
+none_before Bad tried least shorter handled (suc n) (x ∷ xs) long bad early =
+    let (front, last, e) = last_byte x xs in
+    none_before Bad tried least shorter handled n front
+    (omega (arith, ap length e, length-append front (last ∷ [])))
+    (shorter.less front last (subst Bad e bad)
+    (λ is.
+    (let (found, some, late) = handled (front ++ last ∷ []) is (subst Bad e bad) in
+    late (subst (λ name. IsBefore name found) e (early found some)))))
+    (λ found some. before_by front (last ∷ []) found (subst (λ name. IsBefore name found) e (early found some)))
 
 pub answers_least : {A : Type 0} (Bad tried : List ℕ → Type 0) (most : ℕ) (end : TriedSoFar) (answer : Audit A)
-    → Tries Bad tried most none_tried end → ((name : List ℕ) → Bad name → HasBadFront Bad tried name)
-    → told answer ≡ end.least → AnswersLeast Bad answer
-answers_least Bad tried most end Yes tries fronts e = grind arith
-answers_least Bad tried most end (No name) tries fronts e = grind (arith, front_before)
+    → Tries Bad tried most none_tried end → Shortens Bad tried → told answer ≡ end.least → AnswersLeast Bad answer
+answers_least Bad tried most end Yes tries shorter e = λ name bad.
+    none_before Bad tried end.least shorter tries.handled (length name) name refl bad (λ found some. absurd (cc))
+answers_least Bad tried most end (No name) tries shorter e = record {
+  is_bad = grind arith;
+  none_before = λ other bad less.
+      none_before Bad tried end.least shorter tries.handled (length other) other refl bad
+      (λ found some. (let same : name ≡ found = cc in subst (IsBefore other) same less));
+}
 
 -- Yes where no name is bad, and only there
 pub yes_where_none : {A : Type 0} (Bad : List ℕ → Type 0) (Holds : Type 0) (answer : Audit A) → AnswersLeast Bad answer

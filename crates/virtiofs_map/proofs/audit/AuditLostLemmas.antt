@@ -1,34 +1,25 @@
--- Names that pass and do not list back: what the code tests of them, and the front of such a name that is tried.
-use Rattle.std.proofs.Common.{◌≡◌, ◌≢◌, ◌⊎◌, ℕ, Bool, true, not, ◌==◌, List, [], ◌∷◌, ◌++◌, length, drop, Option}
+-- Names that pass and do not list back, and what the code tests of them.
+use Rattle.std.proofs.Common.{◌≡◌, ◌≢◌, ◌⊎◌, ◌<◌, ℕ, ◌==◌, List, [], ◌∷◌, ◌++◌, length, drop, Option}
 use Rattle.std.proofs.Common.{Some, None, inl, inr, refl, sym, ap, ◌∙◌, subst, arith, ◌↔◌}
-use Rattle.std.specs.Bool.{IsTrue}
 use Rattle.std.specs.List.{All}
-use Rattle.std.specs.Option.{option_and_then}
 use Rattle.std.proofs.lemmas.Bool.{cases_Bool, true≢false, eqb-true, eq-eqb}
 use Rattle.std.proofs.lemmas.List.{length-append, length-drop, drop_at}
-use Rattle.virtiofs_map.specs.Audit.{Within, Sound, IsLost}
-use Rattle.virtiofs_map.specs.AuditParts.{added_prefix}
-use Rattle.virtiofs_map.specs.GatheredParts.{added_prefix_of}
+use Rattle.virtiofs_map.specs.Audit.{Sound, IsLost}
+use Rattle.virtiofs_map.specs.AuditParts.{added_prefix, CutsAt}
 use Rattle.virtiofs_map.specs.MapRule.{IsName}
-use Rattle.virtiofs_map.specs.Names.{begins, HostAnswer, IsListed, IsHidden, IsUndecided, host_answer, server_answer}
+use Rattle.virtiofs_map.specs.Names.{HostAnswer, IsListed, IsHidden, IsUndecided, host_answer, server_answer}
 use Rattle.virtiofs_map.specs.Names.{ListsBack}
 use Rattle.virtiofs_map.specs.Rule.{MappingRule, HasNoZero}
 use Rattle.virtiofs_map.specs.declared.xattrmap.scopes.Side.TheVariants.{Client, Server}
-use Rattle.virtiofs_map.proofs.AuditAlikeLemmas.{GuestTried, FareAlike, front_is_name, server_alike}
 use Rattle.virtiofs_map.proofs.AuditAddedLemmas.{passes_added, added_passes, listed_cut, cut_listed, answer_to_one}
 use Rattle.virtiofs_map.proofs.AuditAddedLemmas.{server_one}
-use Rattle.virtiofs_map.proofs.audit.AuditLeastLemmas.{HasBadFront}
-use Rattle.virtiofs_map.proofs.audit.AuditPassLemmas.{front_tried, host_is, host_no_zero, host_not_empty}
+use Rattle.virtiofs_map.proofs.audit.AuditPassLemmas.{host_is, host_no_zero, host_not_empty}
 
 -- ---- listed back
 
--- the server's rules take off the host name just as much as was put before the name
-abbrev pub CutsAll : List MappingRule → List ℕ → List ℕ → Type 0
-CutsAll rules added host = (cut : List ℕ) × (added_prefix Server rules host ≡ Some cut) × (length cut ≡ length added)
-
 -- a name of which just as much is taken off as was put before it lists back
 back_where_cut : (rules : List MappingRule) (name added : List ℕ) → All HasNoZero rules → IsName name → name ≢ []
-    → added_prefix Client rules name ≡ Some added → CutsAll rules added (added ++ name) → ListsBack rules name
+    → added_prefix Client rules name ≡ Some added → CutsAt rules (added ++ name) (length added) → ListsBack rules name
 back_where_cut rules name added no_zero is some e (cut, at, long) =
     let listed = cut_listed rules (added ++ name) cut at in
     let rest : drop (length cut) (added ++ name) ≡ name = drop_at added name (length cut) (sym long) in
@@ -58,7 +49,7 @@ listed_as IsUndecided name some e = absurd (cc)
 
 -- a name that lists back is one of which just as much is taken off
 cut_where_back : (rules : List MappingRule) (name added : List ℕ) → All HasNoZero rules → IsName name → name ≢ []
-    → added_prefix Client rules name ≡ Some added → ListsBack rules name → CutsAll rules added (added ++ name)
+    → added_prefix Client rules name ≡ Some added → ListsBack rules name → CutsAt rules (added ++ name) (length added)
 cut_where_back rules name added no_zero is some e back =
     let same = host_is rules name back.becomes added back.passes e in
     let lists = subst (λ host. server_answer rules (host ++ 0 ∷ []) ≡ Some (name ++ 0 ∷ [])) same back.lists in
@@ -71,8 +62,9 @@ cut_where_back rules name added no_zero is some e back =
 
 -- ---- the test
 
-pub lost_where : (rules : List MappingRule) (name added : List ℕ) → All HasNoZero rules → IsName name → name ≢ []
-    → added_prefix Client rules name ≡ Some added → (CutsAll rules added (added ++ name) → ⊥) → IsLost rules name
+lost_where : (rules : List MappingRule) (name added : List ℕ) → All HasNoZero rules → IsName name → name ≢ []
+    → added_prefix Client rules name ≡ Some added → (CutsAt rules (added ++ name) (length added) → ⊥)
+    → IsLost rules name
 lost_where rules name added no_zero is some e fails = record {
   is_name = is;
   not_empty = some;
@@ -81,39 +73,24 @@ lost_where rules name added no_zero is some e fails = record {
   not_back = λ back. fails (cut_where_back rules name added no_zero is some e back);
 }
 
-lost_cuts : (rules : List MappingRule) (name added : List ℕ) → All HasNoZero rules
-    → added_prefix Client rules name ≡ Some added → IsLost rules name → CutsAll rules added (added ++ name) → ⊥
-lost_cuts rules name added no_zero e lost cuts =
-    lost.not_back (back_where_cut rules name added no_zero lost.is_name lost.not_empty e cuts)
+pub longer : (added name : List ℕ) → name ≢ [] → length added < length (added ++ name)
+longer added [] some = absurd (some refl)
+longer added (x ∷ xs) some = omega (arith, length-append added (x ∷ xs))
 
-pub lost_iff : (rules : List MappingRule) (name added cut : List ℕ) (answer : Bool) → All HasNoZero rules → IsName name
-    → name ≢ [] → added_prefix Client rules name ≡ Some added → added_prefix Server rules (added ++ name) ≡ Some cut
-    → answer ≡ not (length cut == length added) → IsTrue answer ↔ IsLost rules name
-lost_iff rules name added cut answer no_zero is some e at same =
-    grind (arith, lost_where, lost_cuts, cases_Bool, eqb-true, eq-eqb, true≢false)
+some_longer : (added name : List ℕ) → length added < length (added ++ name) → name ≢ []
+some_longer added name more none = omega (arith, length-append added name, ap length none)
 
--- ---- the names tried decide
-
-lost_front : (rules : List MappingRule) (beginning name added : List ℕ)
-    (alike : FareAlike Server rules rules beginning name added) → All HasNoZero rules → IsLost rules name
-    → added_prefix Client rules name ≡ Some added → IsLost rules alike.by
-lost_front rules beginning name added alike no_zero lost e =
-    lost_where rules alike.by added no_zero (front_is_name alike.by name alike.is_front lost.is_name) alike.not_empty
-    alike.client
-    (λ (cut, at, long).
-    lost_cuts rules name added no_zero e lost (
-      cut,
-      ap (option_and_then added_prefix_of) (server_alike rules (added ++ name) (added ++ alike.by) alike.hosts) ∙ at,
-      long,
-    ))
-
-pub lost_tried : (rules : List MappingRule) → All HasNoZero rules → (beginning name : List ℕ) → IsLost rules name
-    → begins beginning name ≡ true
-    → HasBadFront (Within beginning (IsLost rules)) (GuestTried Server rules rules beginning) name
-lost_tried rules no_zero beginning name lost b =
-    front_tried (IsLost rules) Server rules rules beginning name lost.host
-    (λ added alike e same front. lost_front rules beginning name added alike no_zero lost e) lost lost.is_name
-    lost.passes b
+pub lost_as : (rules : List MappingRule) (name added : List ℕ) → All HasNoZero rules → IsName name
+    → added_prefix Client rules name ≡ Some added
+    → IsLost rules name
+    ↔ ((length added < length (added ++ name)) × (¬ CutsAt rules (added ++ name) (length added)))
+lost_as rules name added no_zero is e = (
+  λ lost. (
+    longer added name lost.not_empty,
+    λ cuts. lost.not_back (back_where_cut rules name added no_zero is lost.not_empty e cuts),
+  ),
+  λ (more, fails). lost_where rules name added no_zero is (some_longer added name more) e fails,
+)
 
 -- ---- sound
 

@@ -1,6 +1,6 @@
 -- Names in the order of their bytes.
-use Rattle.std.proofs.Common.{◌≡◌, ℕ, ◌-◌, ◌<◌, ◌≤◌, true, false, List, [], ◌∷◌, ◌++◌, length, get_or, Contains}
-use Rattle.std.proofs.Common.{Some, inl, inr, refl, ap, ◌∙◌, arith, rules}
+use Rattle.std.proofs.Common.{◌≡◌, ℕ, ◌<◌, ◌≤◌, true, false, List, [], ◌∷◌, ◌++◌, length, get_or, Contains}
+use Rattle.std.proofs.Common.{Some, refl, ap, ◌∙◌, arith, rules}
 use Rattle.std.specs.BTreeMap.Comparable.{le_lt_trans}
 use Rattle.std.specs.Cmp.Lexicographic.{slice_cmp, nat_list_cmp_total}
 use Rattle.std.specs.List.{slice_get}
@@ -8,12 +8,12 @@ use Rattle.std.specs.List.Sorted.{IsPartitionedBy, IsPartitionPoint}
 use Rattle.std.specs.Ordering.{nat_cmp, is_lt, is_le, ordering_index, ordering_reverse, ordering_then}
 use Rattle.std.specs.declared.cmp.Ordering.{Ordering}
 use Rattle.std.specs.declared.cmp.Ordering.TheVariants.{Less, Greater}
-use Rattle.std.proofs.lemmas.Bool.{cases_Bool, cases_lt, false≢true, true≢false}
+use Rattle.std.proofs.lemmas.Bool.{cases_Bool, false≢true, true≢false}
 use Rattle.std.proofs.lemmas.Cmp.{ranked, by_ranked, nat_cmp_total, tied_itself}
 use Rattle.std.proofs.lemmas.List.Sorted.{ranks_by, sorted_far, searchable_from_sorted}
 use Rattle.std.proofs.lemmas.Option.{slice_get-get_or, slice_get_within, get_or_from_slice_get}
 use Rattle.virtiofs_map.specs.Audit.{IsBefore}
-use Rattle.virtiofs_map.specs.GatheredParts.{AreOrdered, CountsBefore, IsLast}
+use Rattle.virtiofs_map.specs.GatheredParts.{AreOrdered, CountsBefore}
 use Rattle.virtiofs_map.specs.Names.{begins}
 use Rattle.virtiofs_map.proofs.audit.AuditLeastLemmas.{is_lt-true, is_lt-false}
 
@@ -26,17 +26,10 @@ reversed o p e g = grind arith
 not_le : (o : Ordering) → is_le o ≡ false → o ≡ Greater
 not_le o e = grind (arith, true≢false)
 
-reversed_le : (o p : Ordering) → o ≡ ordering_reverse p → is_le p ≡ true → ¬ (o ≡ Less)
-reversed_le o p e l k = grind (arith, false≢true)
-
 pub after_from_fails : (name bytes : List ℕ) → is_le (slice_cmp nat_cmp name bytes) ≡ false → IsBefore bytes name
 after_from_fails name bytes e =
     reversed (slice_cmp nat_cmp name bytes) (slice_cmp nat_cmp bytes name) (nat_list_cmp_total.antisymm name bytes)
     (not_le (slice_cmp nat_cmp name bytes) e)
-
-pub not_after_from_passes : (name bytes : List ℕ) → is_le (slice_cmp nat_cmp name bytes) ≡ true → ¬ IsBefore bytes name
-not_after_from_passes name bytes e =
-    reversed_le (slice_cmp nat_cmp bytes name) (slice_cmp nat_cmp name bytes) (nat_list_cmp_total.antisymm bytes name) e
 
 -- ---- names in order
 
@@ -55,21 +48,11 @@ in_order names ordered i j one other l here there =
 lt_lower : (o p : Ordering) → ordering_index o ≤ ordering_index p → is_lt p ≡ true → is_lt o ≡ true
 lt_lower o p l e = grind (arith, false≢true)
 
-le_lower : (o p : Ordering) → ordering_index o ≤ ordering_index p → is_le p ≡ true → is_le o ≡ true
-le_lower o p l e = grind arith
-
 pub before_partitioned : (names : List (List ℕ)) (bytes : List ℕ) → AreOrdered names
     → IsPartitionedBy (λ name. is_lt (slice_cmp nat_cmp name bytes)) names
 before_partitioned names bytes ordered = λ i j d l within e.
     (let rises = searchable_from_sorted nat_list_cmp_total (λ (a : List ℕ). a) names bytes ordered in
     lt_lower (slice_cmp nat_cmp (get_or names i d) bytes) (slice_cmp nat_cmp (get_or names j d) bytes)
-    (rises i j d l within) e)
-
-pub up_to_partitioned : (names : List (List ℕ)) (bytes : List ℕ) → AreOrdered names
-    → IsPartitionedBy (λ name. is_le (slice_cmp nat_cmp name bytes)) names
-up_to_partitioned names bytes ordered = λ i j d l within e.
-    (let rises = searchable_from_sorted nat_list_cmp_total (λ (a : List ℕ). a) names bytes ordered in
-    le_lower (slice_cmp nat_cmp (get_or names i d) bytes) (slice_cmp nat_cmp (get_or names j d) bytes)
     (rises i j d l within) e)
 
 -- ---- what a search finds
@@ -85,30 +68,6 @@ counts_before names bytes count l parted =
 pub place_of : {X : Type 0} (names : List X) (name : X) → Contains names name
     → (k : ℕ) × (k < length names) × (slice_get names k ≡ Some name)
 place_of names name (k, l, e) = (k, l, slice_get-get_or names k name l ∙ ap Some e)
-
-pub none_up_to : (names : List (List ℕ)) (bytes : List ℕ) (count : ℕ) → count ≡ 0
-    → IsPartitionPoint (λ name. is_le (slice_cmp nat_cmp name bytes) ≡ true)
-    (λ name. is_le (slice_cmp nat_cmp name bytes) ≡ false) names count
-    → (name : List ℕ) → Contains names name → IsBefore bytes name
-none_up_to names bytes count none parted name among = search (rules, place_of, get_or_from_slice_get, after_from_fails)
-
-pub last_up_to : (names : List (List ℕ)) (bytes last : List ℕ) (count : ℕ) → AreOrdered names → 0 < count
-    → IsPartitionPoint (λ name. is_le (slice_cmp nat_cmp name bytes) ≡ true)
-    (λ name. is_le (slice_cmp nat_cmp name bytes) ≡ false) names count
-    → slice_get names (count - 1) ≡ Some last → IsLast names bytes last
-last_up_to names bytes last count ordered some parted there = record {
-  up_to =
-      (let at = get_or_from_slice_get names (count - 1) last last there in
-      not_after_from_passes last bytes
-      (grind arith));
-  latest = λ name among up_to.
-      (let (k, l, here) = place_of names name among in
-      let at = get_or_from_slice_get names k name name here in
-      elim (cases_lt k count) [
-        | inl below ↦ in_order names ordered k (count - 1) name last (omega arith) here there
-        | inr above ↦ grind (arith, after_from_fails)
-      ]);
-}
 
 -- ---- what stands between
 

@@ -1,24 +1,20 @@
--- Names whose host name another map does not hide: what the code tests of them, the front of such a name that is tried,
--- and what they mean for lists.
-use Rattle.std.proofs.Common.{◌≡◌, ◌≢◌, ◌⊎◌, ℕ, ◌<◌, Bool, true, ◌&&◌, not, cond, List, [], ◌∷◌, ◌++◌, length, ◌↔◌}
-use Rattle.std.proofs.Common.{Some, None, inl, inr, refl, sym, ap, ◌∙◌, arith, rules}
-use Rattle.std.specs.Bool.{IsTrue}
+-- Names whose host name another map does not hide: what the code tests of them, and what they mean for lists.
+use Rattle.std.proofs.Common.{◌≡◌, ◌≢◌, ◌⊎◌, ℕ, ◌<◌, Bool, true, ◌&&◌, cond, List, [], ◌∷◌, ◌++◌, length, ◌↔◌}
+use Rattle.std.proofs.Common.{Some, None, inl, inr, refl, sym, ap, ◌∙◌, subst, arith, rules}
 use Rattle.std.specs.List.{All, cons_option, list_all, filter_map}
-use Rattle.std.proofs.lemmas.Bool.{cases_Bool, true≢false, not-true, ne_eqb}
+use Rattle.std.proofs.lemmas.Bool.{ne_eqb}
 use Rattle.std.proofs.lemmas.List.{length-append}
 use Rattle.std.proofs.lemmas.List.Elements.{All-nil, All-cons, All-append, All-weaker}
 use Rattle.std.proofs.lemmas.List.Splits.{slice_split_at}
-use Rattle.virtiofs_map.specs.Audit.{Within, Reached, Apart, IsSeen, Leaves, IsList, Isolated}
+use Rattle.virtiofs_map.specs.Audit.{Reached, Apart, IsSeen, Leaves, IsList, Isolated}
 use Rattle.virtiofs_map.specs.AuditParts.{added_prefix}
 use Rattle.virtiofs_map.specs.MapRule.{IsName}
-use Rattle.virtiofs_map.specs.Names.{begins, HostAnswer, IsListed, IsHidden, IsUndecided, host_answer}
+use Rattle.virtiofs_map.specs.Names.{HostAnswer, IsListed, IsHidden, IsUndecided, host_answer}
 use Rattle.virtiofs_map.specs.Names.{is_decided, listed_name, names, as_list, server_answer}
 use Rattle.virtiofs_map.specs.Rule.{MappingRule}
-use Rattle.virtiofs_map.specs.declared.xattrmap.scopes.Side.TheVariants.{Client, Server}
-use Rattle.virtiofs_map.proofs.AuditAlikeLemmas.{GuestTried, FareAlike, front_is_name, server_alike}
-use Rattle.virtiofs_map.proofs.AuditAddedLemmas.{added_passes, hidden_same}
-use Rattle.virtiofs_map.proofs.audit.AuditLeastLemmas.{HasBadFront}
-use Rattle.virtiofs_map.proofs.audit.AuditPassLemmas.{front_tried, host_is, host_not_empty}
+use Rattle.virtiofs_map.specs.declared.xattrmap.scopes.Side.TheVariants.{Client}
+use Rattle.virtiofs_map.proofs.AuditAddedLemmas.{added_passes}
+use Rattle.virtiofs_map.proofs.audit.AuditPassLemmas.{host_is}
 use Rattle.virtiofs_map.proofs.MapRuleLemmas.{not_zero_name, some_name}
 use Rattle.virtiofs_map.proofs.NoZeroLemmas.{IsNotZero}
 use Rattle.virtiofs_map.proofs.ServerListLemmas.{is_name, is_zero}
@@ -28,37 +24,24 @@ use Rattle.virtiofs_map.proofs.ServerListLemmas.{is_name, is_zero}
 abbrev IsByteOfName : ℕ → Type 0
 IsByteOfName byte = (0 < byte) × (byte < 256)
 
-pub seen_iff : (rules others : List MappingRule) (name added host : List ℕ) (answer : Bool) → IsName name
-    → added_prefix Client rules name ≡ Some added → host ≡ added ++ name → IsName host → host ≢ []
-    → (IsTrue answer ↔ (host_answer others host ≡ IsHidden)) → IsTrue (not answer) ↔ IsSeen rules others name
-seen_iff rules others name added host answer is e same is_host some both =
-    grind (arith, added_passes, host_is, cases_Bool, true≢false, not-true)
-
--- ---- the names tried decide
-
-seen_front : (rules others : List MappingRule) (beginning name added : List ℕ)
-    (alike : FareAlike Server rules others beginning name added) (seen : IsSeen rules others name)
-    → seen.host ≡ added ++ name → begins (added ++ alike.by) seen.host ≡ true → IsSeen rules others alike.by
-seen_front rules others beginning name added alike seen same front = record {
-  is_name = front_is_name alike.by name alike.is_front seen.is_name;
-  host = added ++ alike.by;
-  is_host = front_is_name (added ++ alike.by) seen.host front seen.is_host;
-  not_empty = host_not_empty added alike.by alike.not_empty;
-  passes = added_passes rules alike.by added alike.client;
-  not_hidden = λ hidden.
-      seen.not_hidden
-      (ap (host_answer others) same
-      ∙ hidden_same others (added ++ alike.by) (added ++ name)
-      (server_alike others (added ++ name) (added ++ alike.by) alike.hosts) hidden);
-}
-
-pub seen_tried : (rules others : List MappingRule) (beginning name : List ℕ) → IsSeen rules others name
-    → begins beginning name ≡ true
-    → HasBadFront (Within beginning (IsSeen rules others)) (GuestTried Server rules others beginning) name
-seen_tried rules others beginning name seen b =
-    front_tried (IsSeen rules others) Server rules others beginning name seen.host
-    (λ added alike e same front. seen_front rules others beginning name added alike seen same front) seen seen.is_name
-    seen.passes b
+pub seen_as : (rules others : List MappingRule) (name added : List ℕ) → IsName name
+    → added_prefix Client rules name ≡ Some added
+    → IsSeen rules others name
+    ↔ (IsName (added ++ name) × (added ++ name ≢ []) × (host_answer others (added ++ name) ≢ IsHidden))
+seen_as rules others name added is e = (
+  λ seen.
+      (let same = host_is rules name seen.host added seen.passes e in
+      subst (λ host. IsName host × (host ≢ []) × (host_answer others host ≢ IsHidden)) same
+      (seen.is_host, seen.not_empty, seen.not_hidden)),
+  λ (is_host, some, shown). record {
+    is_name = is;
+    host = added ++ name;
+    is_host = is_host;
+    not_empty = some;
+    passes = added_passes rules name added e;
+    not_hidden = shown;
+  },
+)
 
 -- ---- apart
 

@@ -5,9 +5,10 @@ use Rattle.std.specs.List.{slice_get}
 use Rattle.std.proofs.lemmas.Bool.{cases_lt, false≢true}
 use Rattle.std.proofs.lemmas.Option.{same_Some, slice_get-get_or}
 use Rattle.virtiofs_map.specs.Audit.{IsBefore}
-use Rattle.virtiofs_map.specs.AuditParts.{TriedSoFar, Tries, is_first, LedTo, IsRest, IsWhole}
+use Rattle.virtiofs_map.specs.AuditParts.{TriedSoFar, Tries, is_first, LedTo, IsLiveRest, IsWhole}
 use Rattle.virtiofs_map.specs.GatheredParts.{AreOrdered, CountsBefore, IsRepeated}
-use Rattle.virtiofs_map.specs.Names.{begins}
+use Rattle.virtiofs_map.specs.Names.{begins, Passes, client_answer}
+use Rattle.virtiofs_map.specs.Rule.{MappingRule}
 use Rattle.virtiofs_map.proofs.BeginsLemmas.{begins_from}
 use Rattle.virtiofs_map.proofs.audit.AuditLeastLemmas.{tries_none, tries_join, tries_fewer, not_first}
 use Rattle.virtiofs_map.proofs.audit.AuditOrderLemmas.{place_of, in_order, between, front_not_before, cmp_after}
@@ -69,25 +70,26 @@ tries_end {xs = xs} l first few =
 
 -- ---- what is left of patterns after an added prefix
 
-abbrev pub IsAfter : List ℕ → List ℕ → List ℕ → Type 0
-IsAfter added pattern name = pattern ≡ added ++ name
+-- the name is what is left of the pattern, and passes as it
+abbrev pub IsAfter : List MappingRule → List ℕ → List ℕ → List ℕ → Type 0
+IsAfter rules added pattern name = (pattern ≡ added ++ name) × (client_answer rules name ≡ Passes pattern)
 
-pub rests_start : {Bad : List ℕ → Type 0} (patterns : List (List ℕ)) (added : List ℕ) (count : ℕ)
-    (tried : TriedSoFar) → CountsBefore patterns added count
-    → Tries Bad (LedBelow patterns count (IsAfter added)) count tried tried
-rests_start patterns added count tried counts =
+pub rests_start : {Bad : List ℕ → Type 0} (rules : List MappingRule) (patterns : List (List ℕ)) (added : List ℕ)
+    (count : ℕ) (tried : TriedSoFar) → CountsBefore patterns added count
+    → Tries Bad (LedBelow patterns count (IsAfter rules added)) count tried tried
+rests_start rules patterns added count tried counts =
     tries_none tried
     (λ name below.
     absurd
-    (front_not_before added below.element (begins_from added below.element name below.led)
+    (front_not_before added below.element (begins_from added below.element name below.led.0)
     (counts.before below.place below.element below.before below.here)))
 
 -- once a pattern does not begin with the added prefix, nor do those after it
-pub rests_end : {Bad : List ℕ → Type 0} {patterns : List (List ℕ)} {added pattern element : List ℕ}
+pub rests_end : {Bad : List ℕ → Type 0} (rules : List MappingRule) {patterns : List (List ℕ)} {added pattern element : List ℕ}
     {count n m most : ℕ} {a b : TriedSoFar} → AreOrdered patterns → CountsBefore patterns added count → count ≤ n
     → n < length patterns → element ≡ get_or patterns n element → pattern ≡ element → begins added pattern ≡ false
-    → Tries Bad (LedBelow patterns n (IsAfter added)) m a b → m ≤ most → Tries Bad (IsRest patterns added) most a b
-rests_end {patterns = patterns} {added = added} {pattern = pattern} {element = element} {n = n} ordered counts l u e
+    → Tries Bad (LedBelow patterns n (IsAfter rules added)) m a b → m ≤ most → Tries Bad (IsLiveRest rules patterns added) most a b
+rests_end rules {patterns = patterns} {added = added} {pattern = pattern} {element = element} {n = n} ordered counts l u e
     same fails first few =
     tries_fewer first
     (λ name (other, among, split).
@@ -98,7 +100,7 @@ rests_end {patterns = patterns} {added = added} {pattern = pattern} {element = e
           (let here : slice_get patterns n ≡ Some pattern =
           slice_get-get_or patterns n element u ∙ ap Some (sym e ∙ sym same) in
           absurd (false≢true (sym fails
-          ∙ between added pattern other (begins_from added other name split) (counts.after n pattern l here)
+          ∙ between added pattern other (begins_from added other name split.0) (counts.after n pattern l here)
           (in_order patterns ordered n k pattern other over here there))))
     ])) few
 

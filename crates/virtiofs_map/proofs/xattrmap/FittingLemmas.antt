@@ -1,17 +1,15 @@
 -- Which patterns begin a name and a front of it, and the first rule where rules fit two names alike.
 use Rattle.std.proofs.Common.{◌≡◌, ℕ, zero, suc, ◌+◌, ◌≤◌, Bool, true, ◌&&◌, not, cond, eqb, List, [], ◌∷◌, ◌++◌}
-use Rattle.std.proofs.Common.{length, take, drop, Contains, Option, Some, None, refl, sym, ap, ◌∙◌, add-one, arith}
+use Rattle.std.proofs.Common.{length, take, drop, Contains, refl, sym, ap, ◌∙◌, add-one, arith}
 use Rattle.std.specs.List.{position_or_len}
-use Rattle.std.specs.Option.{option_map_or}
-use Rattle.std.proofs.lemmas.Bool.{and_parts}
 use Rattle.std.proofs.lemmas.List.{append_assoc, drop_at}
 use Rattle.std.proofs.lemmas.List.Elements.{Contains-append_right}
 use Rattle.std.proofs.Math.Seq.{take-append-add}
-use Rattle.virtiofs_map.specs.FirstRule.{acts, pattern, deciding_length}
-use Rattle.virtiofs_map.specs.Names.{begins, fits, first, deciding}
+use Rattle.virtiofs_map.specs.FirstRule.{acts, pattern}
+use Rattle.virtiofs_map.specs.Names.{begins, fits, first}
 use Rattle.virtiofs_map.specs.Rule.{MappingRule}
 use Rattle.virtiofs_map.specs.declared.xattrmap.scopes.Side.{Side}
-use Rattle.virtiofs_map.proofs.BeginsLemmas.{begins_split, begins_from, begins_length, deciding_fits}
+use Rattle.virtiofs_map.proofs.BeginsLemmas.{begins_split, begins_from}
 
 pub fits_is : (side : Side) (name : List ℕ) (rule : MappingRule)
     → fits side name rule ≡ (acts side rule && begins (pattern side rule) name)
@@ -60,15 +58,3 @@ pub same_first : (side : Side) (rules : List MappingRule) (name other : List ℕ
     → ((rule : MappingRule) → Contains rules rule → fits side name rule ≡ fits side other rule)
     → first side rules name ≡ first side rules other
 same_first side rules name other same = grind (arith, first_among)
-
--- the pattern that decides a name is no longer than the name
-pub deciding_within : (side : Side) (rules : List MappingRule) (name : List ℕ)
-    → deciding_length side rules name ≤ length name
-deciding_within side rules name = by_case (deciding side rules name) refl where
-  by_case : (o : Option MappingRule) → deciding side rules name ≡ o
-      → option_map_or (λ rule. length (pattern side rule)) o 0 ≤ length name
-  by_case None e = omega arith
-  by_case (Some rule) e =
-      begins_length (pattern side rule) name
-      (and_parts (acts side rule) (begins (pattern side rule) name)
-      (sym (fits_is side name rule) ∙ deciding_fits side rules name rule (sym e))).1

@@ -16,7 +16,7 @@ use Rattle.virtiofs_map.specs.declared.xattrmap.errors.Error.{Error}
 use Rattle.virtiofs_map.specs.declared.xattrmap.errors.ErrorKind.TheVariants.{UnterminatedMapping}
 use Rattle.virtiofs_map.specs.NamesImageParts.{IsFirstSeen}
 use Rattle.virtiofs_map.specs.declared.xattrmap.listed.Seen.{Seen}
-use Rattle.virtiofs_map.specs.declared.xattrmap.listed.Seen.TheVariants.{NoMap, Undecided, Hidden, Listed}
+use Rattle.virtiofs_map.specs.declared.xattrmap.listed.Seen.TheVariants.{Undecided, Hidden, Listed}
 use Rattle.virtiofs_map.proofs.ServerListLemmas.{shown, with_zeros}
 
 -- an item that is given, with the bytes of its name
@@ -47,9 +47,8 @@ items_step : {A : Type 0} (rules : List MappingRule) (name : List ℕ) (parts : 
     → items {A = A} rules (name ∷ parts) ≡ item_of (host_answer rules name) (items rules parts)
 items_step {A} rules name parts = grind (arith, shown, take_while-cons)
 
--- what the guest sees of a name, but that the map is none
+-- what the guest sees of a name
 abbrev told : Seen → HostAnswer
-told NoMap = IsHidden
 told Undecided = IsUndecided
 told Hidden = IsHidden
 told (Listed shown) = IsListed shown.now
@@ -58,9 +57,6 @@ told (Listed shown) = IsListed shown.now
 pub listing_seen : {A : Type 0} (rules : List MappingRule) (list : List ℕ) (seen : Seen) (rest : List ℕ)
     → IsFirstSeen rules list seen rest → listing {A = A} rules list ≡ item_of (told seen) (listing rules rest)
 listing_seen rules list seen rest e = grind (arith, items_step)
-
-pub no_map_unseen : (rules : List MappingRule) (list rest : List ℕ) → IsFirstSeen rules list NoMap rest → ⊥
-no_map_unseen rules list rest e = grind arith
 
 -- ---- the list that the items make
 

@@ -5,7 +5,7 @@ use Rattle.std.specs.List.{filter, list_any, range_with_len}
 use Rattle.std.proofs.lemmas.Bool.{cases_Bool, cond_both, eqb-true, true≢false}
 use Rattle.std.proofs.lemmas.Bool.Decides.{nat_tests}
 use Rattle.std.proofs.lemmas.List.{length_push}
-use Rattle.std.proofs.lemmas.List.Sums.{sum_by-cons}
+use Rattle.std.proofs.lemmas.List.Sums.{sum_by-cons, sum_by-le-sum_by}
 use Rattle.virtiofs_map.specs.Names.{begins}
 use Rattle.virtiofs_map.specs.PatternTrie.{leads, ends, next_bytes, places, are_sparse, span, goes_on, longest_label}
 use Rattle.virtiofs_map.specs.PatternTrie.{places_below, nodes_in_all}
@@ -14,10 +14,6 @@ use Rattle.virtiofs_map.proofs.BeginsLemmas.{begins_length}
 -- ---- sums
 
 module _ {X : Type 0} (f g : X → ℕ) where
-  sum_less : ((x : X) → f x ≤ g x) → (xs : List X) → sum_by f xs ≤ sum_by g xs
-  sum_less less [] = omega arith
-  sum_less less (x ∷ xs) = omega (arith, sum_by-cons f x xs, sum_by-cons g x xs, less x, sum_less less xs)
-
   sum_both : (xs : List X) → sum_by (λ x. f x + g x) xs ≡ sum_by f xs + sum_by g xs
   sum_both [] = refl
   sum_both (x ∷ xs) =
@@ -50,37 +46,30 @@ held texts path = sum_by (worth path) texts
 abbrev through : List ℕ → List ℕ → ℕ → ℕ
 through path text byte = cond (begins (path ++ byte ∷ []) text) (6 + (length text - length path)) 0
 
--- a number is met once in a range at most
+-- a number is met once in a range at most, and not where it is lower
 abbrev hit : ℕ → ℕ → ℕ → ℕ
 hit n x b = cond (eqb b x && true) n 0
 
-single_past : (n x low count : ℕ) → x < low → sum_by (hit n x) (range_with_len low count) ≡ 0
-single_past n x low zero past = refl
-single_past n x low (suc count) past =
-    let not_here : eqb low x ≡ false = grind (arith, nat_tests, past) in
-    omega (
-      arith,
-      sum_by-cons (hit n x) low (range_with_len (low + 1) count),
-      ap (λ b. cond (b && true) n 0) not_here,
-      single_past n x (low + 1) count (omega arith),
-    )
-
-single : (n x low count : ℕ) → sum_by (hit n x) (range_with_len low count) ≤ n
-single n x low zero = omega arith
+single : (n x low count : ℕ)
+    → sum_by (hit n x) (range_with_len low count) ≤ n × (x < low → sum_by (hit n x) (range_with_len low count) ≡ 0)
+single n x low zero = (omega arith, λ past. refl)
 single n x low (suc count) =
     let all = sum_by-cons (hit n x) low (range_with_len (low + 1) count) in
+    let (most, none) = single n x (low + 1) count in
     elim (cases_Bool (eqb low x)) [
       | inl e ↦
-          (let rest = single_past n x (low + 1) count (omega (arith, eqb-true low x e)) in
-          omega (arith, all, ap (λ b. cond (b && true) n 0) e, rest))
-      | inr e ↦ omega (arith, all, ap (λ b. cond (b && true) n 0) e, single n x (low + 1) count)
+          (let here = ap (λ b. cond (b && true) n 0) e in let same = eqb-true low x e in
+          (omega (arith, all, here, none (omega (arith, same))), λ past. absurd (omega (arith, same))))
+      | inr e ↦
+          (let here = ap (λ b. cond (b && true) n 0) e in
+          (omega (arith, all, here, most), λ past. omega (arith, all, here, none (omega arith))))
     ]
 
 -- so a text goes on with one byte at most
 one_byte : (n low count : ℕ) (path text : List ℕ)
     → sum_by (λ b. cond (begins (path ++ b ∷ []) text) n 0) (range_with_len low count) ≤ cond (begins path text) n 0
 one_byte n low count [] [] = omega (arith, sum_none (range_with_len low count))
-one_byte n low count [] (x ∷ text) = single n x low count
+one_byte n low count [] (x ∷ text) = (single n x low count).0
 one_byte n low count (p ∷ path) [] = omega (arith, sum_none (range_with_len low count))
 one_byte n low count (p ∷ path) (x ∷ text) = by (eqb p x) (one_byte n low count path text) where
   by : (same : Bool)
@@ -94,9 +83,9 @@ all_through : (path : List ℕ) (texts : List (List ℕ)) (low count : ℕ)
     → sum_by (λ b. sum_by (λ t. through path t b) texts) (range_with_len low count) ≤ held texts path
 all_through path [] low count = omega (arith, sum_none (range_with_len low count))
 all_through path (text ∷ texts) low count =
-    let more = sum_less (λ b. sum_by (λ t. through path t b) (text ∷ texts))
-    (λ b. through path text b + sum_by (λ t. through path t b) texts)
-    (λ b. omega (arith, sum_by-cons (λ t. through path t b) text texts)) (range_with_len low count) in
+    let more = sum_by-le-sum_by (λ b. sum_by (λ t. through path t b) (text ∷ texts))
+    (λ b. through path text b + sum_by (λ t. through path t b) texts) (range_with_len low count)
+    (λ b. omega (arith, sum_by-cons (λ t. through path t b) text texts)) in
     omega (
       arith,
       more,
@@ -142,8 +131,8 @@ module _ (path : List ℕ) (byte : ℕ) where
         | inl e ↦
             (let some = ap {B = ℕ} (λ b. cond b 1 0) e in
             let seven = ap {B = ℕ} (λ b. cond b (6 + (length text - length (path ++ byte ∷ []))) 0) e in
-            let more = sum_less (worth (path ++ byte ∷ [])) (λ t. through path t byte)
-            (λ t. omega (arith, less_after t)) texts in
+            let more = sum_by-le-sum_by (worth (path ++ byte ∷ [])) (λ t. through path t byte) texts
+            (λ t. omega (arith, less_after t)) in
             (omega (arith, all, rest, here, some, more), omega (arith, all, here, some, seven)))
         | inr f ↦
             (let later = less_below texts (sym (ap (λ b. b || list_any (begins (path ++ byte ∷ [])) texts) f) ∙ led) in

@@ -2,12 +2,11 @@
 use Rattle.std.proofs.Common.{◌≡◌, ◌≢◌, ◌⊎◌, ℕ, zero, suc, ◌≤◌, true, List, [], ◌∷◌, length, take, drop, All}
 use Rattle.std.proofs.Common.{Some, inl, inr, refl, sym, ap, ◌∙◌, arith, slice_get, take_at}
 use Rattle.std.proofs.lemmas.List.Elements.{All-contains, All-nil, All-same, All-take}
-use Rattle.std.proofs.lemmas.Option.{slice_get_read}
 use Rattle.virtiofs_map.specs.NodeParts.{BeginsPattern}
 use Rattle.virtiofs_map.specs.FirstRule.{acts, pattern, longest}
 use Rattle.virtiofs_map.specs.Rule.{MappingRule, HasNoZero}
 use Rattle.virtiofs_map.specs.declared.xattrmap.scopes.Side.{Side}
-use Rattle.virtiofs_map.proofs.BeginsLemmas.{begins_length, begins_split}
+use Rattle.virtiofs_map.proofs.BeginsLemmas.{begins_split}
 
 -- a pattern of a rule is no longer than the longest
 pub no_longer : (side : Side) (rules : List MappingRule) (at : ℕ) (rule : MappingRule) → slice_get rules at ≡ Some rule
@@ -22,11 +21,7 @@ pattern_no_zero side rule none = grind arith
 
 module _ (side : Side) (rules : List MappingRule) (path : List ℕ)
     (front : (path ≡ []) ⊎ BeginsPattern side rules path) where
-  -- so a path is no longer than the longest pattern
-  pub path_short : length path ≤ longest side rules
-  path_short = grind (arith, slice_get_read, begins_length, no_longer)
-
-  -- and holds no zero where the rules hold none
+  -- so a path holds no zero where the rules hold none
   pub path_no_zero : All HasNoZero rules → All (λ byte. byte ≢ 0) path
   path_no_zero plain = elim front [
     | inl none ↦ All-same (λ byte. byte ≢ 0) path [] none (All-nil (λ byte. byte ≢ 0))

@@ -2,6 +2,7 @@
 
 ghost use Rattle.std.specs.Prelude.{List, IfOk};
 ghost use Rattle.virtiofs_map.specs.Audit.{AnswersLeast, HasFault, Within};
+ghost use Rattle.virtiofs_map.specs.AuditParts.{other_rules};
 ghost use Rattle.virtiofs_map.specs.NamesImage.{IsMapOf};
 ghost use Rattle.virtiofs_map.specs.Rule.{MappingRule};
 
@@ -28,6 +29,17 @@ pub enum NameFault {
     Shared,
 }
 
+/// The map whose rules say what becomes of names of the host.
+fn other_of<'m>(fault: NameFault, r: XattrMapRef<'m>, q: XattrMapRef<'m>) -> XattrMapRef<'m>
+    ensures { (rules others : List MappingRule) → IsMapOf rules r.entry → IsMapOf others q.entry
+        → IsMapOf (other_rules fault rules others) result }
+{
+    match fault {
+        NameFault::Lost | NameFault::Stray => r,
+        NameFault::Seen | NameFault::Shared => q,
+    }
+}
+
 /// Whether no name that begins with these bytes has the fault; else `No` has the least. The fault is
 /// one under the first map (`r`), where another guest has the second (`q`); for `Lost` and `Stray`
 /// the second makes no difference.
@@ -50,7 +62,12 @@ pub fn ask<A: Allocator + Copy>(
         → IfOk result (AnswersLeast
         (Within beginning.entry.bytes.now (HasFault fault rules others))) }
 {
-    let question = Question::new(alloc, fault, r, q, beginning)?;
+    let question = Question {
+        fault,
+        map: r,
+        other: other_of(fault, r, q),
+        beginning,
+    };
     match fault {
         NameFault::Stray => least_host_name(alloc, &question),
         _ => least_guest_name(alloc, &question, &mut Steps::new()),

@@ -14,7 +14,7 @@
 ghost use Rattle.std.specs.Prelude.{◌≡◌, ◌≢◌, ◌<◌, ◌*◌, List, All, Contains, IfOk, OnErr, OnOk};
 ghost use Rattle.std.specs.Prelude.{length};
 ghost use Rattle.virtiofs_map.specs.Audit.{AnswersLeast};
-ghost use Rattle.virtiofs_map.specs.AuditParts.{IsAskedOf, IsBad, IsLiveWhole, IsOneByte, IsRest};
+ghost use Rattle.virtiofs_map.specs.AuditParts.{IsAskedOf, IsBad, IsLiveRest, IsLiveWhole, IsOneByte};
 ghost use Rattle.virtiofs_map.specs.AuditParts.{IsWhole};
 ghost use Rattle.virtiofs_map.specs.AuditParts.{LedTo, Tries, most_guest_names, other_rules};
 ghost use Rattle.virtiofs_map.specs.AuditParts.{side_of};
@@ -28,8 +28,8 @@ use crate::audit::answer::Audit;
 use crate::audit::gathered::{Part, gathered};
 use crate::audit::least::Tried;
 use crate::audit::ordered::{count_before, is_repeated};
+use crate::audit::passing::{is_cut, is_put_at};
 use crate::audit::question::Question;
-use crate::audit::questions::is_cut;
 use crate::steps::Steps;
 use crate::xattrmap::{Side, XattrMapRef, XattrName, XattrNameBuf};
 use std::alloc::{AllocError, Allocator};
@@ -38,7 +38,7 @@ use std::alloc::{AllocError, Allocator};
 /// least, so they are tried too; the other names that are tried are counted.
 pub(crate) fn least_guest_name<A: Allocator + Copy>(
     alloc: A,
-    question: &Question<'_, A>,
+    question: &Question<'_>,
     steps: &mut Steps,
 ) -> Result<Audit<A>, AllocError>
     requires { question.now.fault ≢ Stray }
@@ -54,24 +54,25 @@ pub(crate) fn least_guest_name<A: Allocator + Copy>(
     let keys = gathered(alloc, question.map, Part::Key)?;
     let all_added = gathered(alloc, question.map, Part::Added(Side::Client))?;
     let patterns = gathered(alloc, question.other, Part::Host(question.side()))?;
-    try_rests_of(alloc, question, &keys, &[], &mut tried)?;
+    try_wholes_of(alloc, question, XattrName { bytes: &[] }, &keys, &mut tried)?;
     try_rests(alloc, question, &all_added, &patterns, &mut tried)?;
     try_one_byte_names(alloc, question, &mut tried)?;
     steps.add(tried.steps());
     Ok(tried.into_answer())
 }
 
-/// Tries what is left of each pattern that begins with one of the added prefixes, after it.
+/// Tries what is left of each pattern that begins with one of the added prefixes, after it, where it
+/// passes as the pattern.
 fn try_rests<A: Allocator + Copy>(
     alloc: A,
-    question: &Question<'_, A>,
+    question: &Question<'_>,
     all_added: &[XattrNameBuf<A>],
     patterns: &[XattrNameBuf<A>],
     tried: &mut Tried<A>,
 ) -> Result<(), AllocError>
     requires { AreOrdered patterns.now }
     ensures { OnOk result ((rules others : List MappingRule) → IsAskedOf question.now rules others
-        → Tries (IsBad question.now rules others) (LedTo all_added.now (IsRest patterns.now))
+        → Tries (IsBad question.now rules others) (LedTo all_added.now (IsLiveRest rules patterns.now))
         (length all_added.now * length patterns.now) tried.old tried.new) }
 {
     for place in 0..all_added.len() {
@@ -84,17 +85,18 @@ fn try_rests<A: Allocator + Copy>(
     Ok(())
 }
 
-/// Tries what is left of each pattern that begins with an added prefix, after it.
+/// Tries what is left of each pattern that begins with an added prefix, after it, where it passes as
+/// the pattern: where another prefix is put before it, it is what is left after that one.
 fn try_rests_of<A: Allocator + Copy>(
     alloc: A,
-    question: &Question<'_, A>,
+    question: &Question<'_>,
     patterns: &[XattrNameBuf<A>],
     added: &[u8],
     tried: &mut Tried<A>,
 ) -> Result<(), AllocError>
     requires { AreOrdered patterns.now }
     ensures { OnOk result ((rules others : List MappingRule) → IsAskedOf question.now rules others
-        → Tries (IsBad question.now rules others) (IsRest patterns.now added.now)
+        → Tries (IsBad question.now rules others) (IsLiveRest rules patterns.now added.now)
         (length patterns.now) tried.old tried.new) }
 {
     let start = count_before(patterns, added);
@@ -102,6 +104,9 @@ fn try_rests_of<A: Allocator + Copy>(
         let pattern = patterns[place].as_name();
         if !pattern.bytes.starts_with(added) {
             return Ok(());
+        }
+        if !is_put_at(question.map, pattern.bytes, added.len()) {
+            continue;
         }
         let bytes = &pattern.bytes[added.len()..];
         tried.try_name(alloc, question, XattrName { bytes })?;
@@ -112,7 +117,7 @@ fn try_rests_of<A: Allocator + Copy>(
 /// The least bad name of the host.
 pub(crate) fn least_host_name<A: Allocator + Copy>(
     alloc: A,
-    question: &Question<'_, A>,
+    question: &Question<'_>,
 ) -> Result<Audit<A>, AllocError>
     requires { question.now.fault ≡ Stray }
     ensures { (rules others : List MappingRule) → IsAskedOf question.now rules others
@@ -123,7 +128,13 @@ pub(crate) fn least_host_name<A: Allocator + Copy>(
     let prepends = gathered(alloc, question.map, Part::Host(Side::Server))?;
     let cuts = gathered(alloc, question.map, Part::Added(Side::Server))?;
     let keys = gathered(alloc, question.map, Part::Key)?;
-    try_rests_of(alloc, question, &prepends, &[], &mut tried)?;
+    try_wholes_of(
+        alloc,
+        question,
+        XattrName { bytes: &[] },
+        &prepends,
+        &mut tried,
+    )?;
     try_wholes(alloc, question, &cuts, &keys, &mut tried)?;
     try_one_byte_names(alloc, question, &mut tried)?;
     Ok(tried.into_answer())
@@ -132,7 +143,7 @@ pub(crate) fn least_host_name<A: Allocator + Copy>(
 /// Tries each key after each of the cuts, where the rules of the server take that cut off a name.
 fn try_wholes<A: Allocator + Copy>(
     alloc: A,
-    question: &Question<'_, A>,
+    question: &Question<'_>,
     cuts: &[XattrNameBuf<A>],
     keys: &[XattrNameBuf<A>],
     tried: &mut Tried<A>,
@@ -161,7 +172,7 @@ fn try_wholes<A: Allocator + Copy>(
 /// Tries each key after a cut, as long as these names come before the least bad one.
 fn try_wholes_of<A: Allocator + Copy>(
     alloc: A,
-    question: &Question<'_, A>,
+    question: &Question<'_>,
     cut: XattrName<'_>,
     keys: &[XattrNameBuf<A>],
     tried: &mut Tried<A>,
@@ -185,7 +196,7 @@ fn try_wholes_of<A: Allocator + Copy>(
 /// Tries the names of one byte.
 fn try_one_byte_names<A: Allocator + Copy>(
     alloc: A,
-    question: &Question<'_, A>,
+    question: &Question<'_>,
     tried: &mut Tried<A>,
 ) -> Result<(), AllocError>
     ensures tried { OnOk result ((rules others : List MappingRule)

@@ -86,7 +86,8 @@ fn part_of<A: Allocator + Copy>(
     copied(alloc, bytes)
 }
 
-/// That part of each rule which has one, in the order of the bytes.
+/// That part of each rule which has one, in the order of the bytes. The patterns of a map stand one
+/// after another, so those of other bytes are left out once they have more bytes than these.
 pub(crate) fn gathered<A: Allocator + Copy>(
     alloc: A,
     map: XattrMapRef<'_>,
@@ -97,10 +98,16 @@ pub(crate) fn gathered<A: Allocator + Copy>(
     ensures ordered { IfOk result (λ names. AreOrdered names.items) }
 {
     let mut names = Vec::new(alloc);
+    let mut left = map.bytes.len();
     for place in 0..map.len() {
         let Some(rule) = map.rule(place) else {
             continue;
         };
+        let count = rule.key.len() + rule.prepend.len();
+        if count > left {
+            continue;
+        }
+        left -= count;
         let Some(name) = part_of(alloc, rule, part)? else {
             continue;
         };

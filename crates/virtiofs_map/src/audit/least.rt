@@ -46,7 +46,7 @@ impl<A: Allocator + Copy> Tried<A> {
     pub(crate) fn try_name(
         &mut self,
         alloc: A,
-        question: &Question<'_, A>,
+        question: &Question<'_>,
         name: XattrName<'_>,
     ) -> Result<(), AllocError>
         ensures tried { OnOk result ((rules others : List MappingRule)
@@ -63,7 +63,7 @@ impl<A: Allocator + Copy> Tried<A> {
     pub(crate) fn look_at(
         &mut self,
         alloc: A,
-        question: &Question<'_, A>,
+        question: &Question<'_>,
         name: XattrName<'_>,
     ) -> Result<(), AllocError>
         ensures tried { OnOk result ((rules others : List MappingRule)

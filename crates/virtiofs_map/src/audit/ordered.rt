@@ -1,12 +1,10 @@
 //! Names in the order of their bytes, so that those which begin with the same bytes stand together.
 //! One may stand there several times.
 
-ghost use Rattle.std.specs.Option.{option_map};
-ghost use Rattle.std.specs.Prelude.{◌≡◌, ◌<◌, IsTrue, length};
-ghost use Rattle.virtiofs_map.specs.GatheredParts.{AreOrdered, CountsBefore, IsLastUpTo};
-ghost use Rattle.virtiofs_map.specs.GatheredParts.{IsRepeated};
+ghost use Rattle.std.specs.Prelude.{◌<◌, IsTrue, length};
+ghost use Rattle.virtiofs_map.specs.GatheredParts.{AreOrdered, CountsBefore, IsRepeated};
 
-use crate::xattrmap::{XattrName, XattrNameBuf};
+use crate::xattrmap::XattrNameBuf;
 use std::alloc::Allocator;
 
 /// Whether the name at a place stands just before it too.
@@ -26,19 +24,4 @@ pub(crate) fn count_before<A: Allocator>(names: &[XattrNameBuf<A>], bytes: &[u8]
     ensures { CountsBefore names.now bytes.now result }
 {
     names.partition_point(|name| name.as_name().bytes.cmp(&bytes).is_lt())
-}
-
-/// The last name that does not come after these bytes.
-pub(crate) fn last_up_to<'a, A: Allocator>(
-    names: &'a [XattrNameBuf<A>],
-    bytes: &[u8],
-) -> Option<XattrName<'a>>
-    requires { AreOrdered names.now }
-    ensures { IsLastUpTo names.now bytes.now (option_map (λ name. name.bytes.now) result) }
-{
-    let count = names.partition_point(|name| name.as_name().bytes.cmp(&bytes).is_le());
-    if count == 0 {
-        return None;
-    }
-    Some(names[count - 1].as_name())
 }

@@ -1,14 +1,11 @@
-//! The three numbers of a range, which are read and printed alike for users and groups.
-ghost use Rattle.std.specs.Prelude.{◌≢◌, length, Some, IfSome, IfNone, IfOk, IfErr};
+//! The three numbers of a range, which are read alike for users and groups.
+ghost use Rattle.std.specs.Prelude.{◌≡◌, ◌≢◌, [], ◌∷◌, length, IfSome, IfNone, IfOk, IfErr};
 ghost use Rattle.std.specs.Str.{chars};
-ghost use Rattle.virtiofs_map.specs.NamespaceParts.{IsThreeFields};
 ghost use Rattle.virtiofs_map.specs.NamespaceText.{SaysNamespace, IsEnclosed, HasNamespaceFault, namespace_fault_of};
-ghost use Rattle.virtiofs_map.specs.Printed.{namespace_text};
 ghost use Rattle.virtiofs_map.specs.Separator.{split_at_each};
 
 use super::IdMapError;
 use crate::text::{cut_at, is_alphanumeric, number};
-use std::fmt;
 
 /// What the text of a range says.
 #[derive(Drop)]
@@ -48,9 +45,8 @@ fn enclosed(text: &str) -> Result<(char, &str), IdMapError>
 /// The fields of a text, where there are three.
 #[tactic(auto, using(crate::proofs::NamespaceLemmas::fields))]
 fn three_fields(delimiter: char, inner: &str) -> Option<Fields<'_>>
-    ensures three { IfSome result (λ fields.
-        IsThreeFields delimiter (chars inner.now)
-        (chars fields.inside.now) (chars fields.outside.now) (chars fields.count.now)) }
+    ensures three { IfSome result (λ fields. split_at_each delimiter (chars inner.now)
+        ≡ chars fields.inside.now ∷ chars fields.outside.now ∷ chars fields.count.now ∷ []) }
     ensures other { IfNone result (length (split_at_each delimiter (chars inner.now)) ≢ 3) }
 {
     let (inside, rest) = cut_at(inner, delimiter)?;
@@ -86,13 +82,5 @@ impl Range {
             outside,
             count,
         })
-    }
-}
-
-impl fmt::Display for Range {
-    ghost output = { λ range. Some (namespace_text range.inside range.outside range.count) };
-
-    fn fmt<W: fmt::Write>(&self, f: &mut fmt::Formatter<W>) -> fmt::Result {
-        write!(f, ":{}:{}:{}:", self.inside, self.outside, self.count)
     }
 }

@@ -2,6 +2,7 @@
 ghost use Rattle.std.specs.Prelude.{◌≡◌, ◌↔◌, ℕ, ◌+◌, ◌<◌, IsTrue};
 ghost use Rattle.virtiofs_map.specs.Mapping.{entry_of, first_of, count_of, EntryCovers, target_of};
 ghost use Rattle.virtiofs_map.specs.Build.{HasSource, HasTarget};
+ghost use Rattle.virtiofs_map.specs.RangeParts.{precedes};
 
 use crate::cmdline::IdMap;
 use std::fmt;
@@ -143,6 +144,13 @@ impl Entry {
         let first = self.first().max(other.first());
         let end = self.end().min(other.end());
         u64::from(first) < end
+    }
+
+    /// Whether the entry ends before the other one begins.
+    pub(crate) fn precedes(self, other: Entry) -> bool
+        ensures { result ≡ precedes self other }
+    {
+        self.end() <= u64::from(other.first())
     }
 
     /// Whether the end of the range is a number of 32 bits, or the range is empty.

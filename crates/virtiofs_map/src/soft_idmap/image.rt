@@ -13,7 +13,7 @@ ghost use Rattle.virtiofs_map.specs.MappingLaws.{IsMappedBothWays};
 ghost use Rattle.virtiofs_map.specs.Refusal.{IsOutOfMemory, OutOfMemoryOr};
 ghost use Rattle.virtiofs_map.specs.declared.cmdline.IdMap.{IdMap as Specification};
 
-use super::build::sorted_both;
+use super::build::accepted_ranges;
 pub use super::row::Answer;
 use super::words::IdMapRef;
 use super::write::write_words;
@@ -56,7 +56,7 @@ pub fn write_image<A: Allocator + Copy>(
         (λ e. OutOfMemoryOr (build_fault_of e) (λ told. told ≡ fault)) }
     ensures keeps { OnErr result (words.new ≡ words.old) }
 {
-    let (guests, hosts) = sorted_both(alloc, specs)?;
+    let (guests, hosts) = accepted_ranges(alloc, specs)?;
     let len = 4 + 4 * guests.len() + 4 * hosts.len();
     if words.len() < len {
         return Ok(len);

@@ -1,27 +1,18 @@
 //! Writes the words of a map.
-ghost use Rattle.std.specs.Prelude.{◌≡◌, ◌+◌, ◌*◌, ◌<◌, ◌≤◌, List, length, map, slice_get, slice_index, Some};
+ghost use Rattle.std.specs.Prelude.{◌≡◌, ◌+◌, ◌*◌, ◌<◌, ◌≤◌, List, length, slice_index};
 ghost use Rattle.virtiofs_map.specs.Build.{Accepted};
 ghost use Rattle.virtiofs_map.specs.Image.{IsImage};
-ghost use Rattle.virtiofs_map.specs.RangeParts.{AreSorted};
+ghost use Rattle.virtiofs_map.specs.RangeParts.{AreRanges, AreRangesOf};
 ghost use Rattle.virtiofs_map.specs.WordParts.{IsRow, AreFirstsBelow, AreRowsBelow, KeepsBefore, image_kind};
 ghost use Rattle.virtiofs_map.specs.declared.cmdline.IdMap.{IdMap as Specification};
 ghost use Rattle.virtiofs_map.specs.declared.soft_idmap.entry.Direction.TheVariants.{GuestToHost, HostToGuest};
 
 use super::entry::Entry;
-use super::indexed::IndexedEntry;
 use super::row::{FAILS, MAPS, SQUASHES};
 
 /// The first and the last word of every map of ids: the letters `ids` in the three upper bytes, and the version
 /// of the layout in the lowest.
 pub(crate) const KIND: u32 = 0x6964_7302;
-
-/// An entry that was placed.
-fn entry_at(indexed: &[IndexedEntry], at: usize) -> Entry
-    requires { at < length indexed.now }
-    ensures { slice_get (map (λ one. one.entry) indexed.now) at ≡ Some result }
-{
-    indexed[at].entry
-}
 
 /// Writes the first word, and how many ranges there are in each direction.
 fn write_head(words: &mut [u32], guests: u32, hosts: u32)
@@ -53,26 +44,24 @@ fn write_row(words: &mut [u32], at: usize, entry: Entry)
 }
 
 /// Writes the rows of a direction.
-fn write_rows(words: &mut [u32], start: usize, indexed: &[IndexedEntry])
-    requires room { start + 3 * length indexed.now ≤ length words.old }
-    ensures rows { AreRowsBelow words.new start (map (λ one. one.entry) indexed.now)
-        (length indexed.now) }
+fn write_rows(words: &mut [u32], start: usize, ranges: &[Entry])
+    requires room { start + 3 * length ranges.now ≤ length words.old }
+    ensures rows { AreRowsBelow words.new start ranges.now (length ranges.now) }
     ensures before { KeepsBefore start words.old words.new }
 {
-    for at in 0..indexed.len() {
-        write_row(words, start + 3 * at, entry_at(indexed, at));
+    for at in 0..ranges.len() {
+        write_row(words, start + 3 * at, ranges[at]);
     }
 }
 
 /// Writes the first numbers of a direction.
-fn write_firsts(words: &mut [u32], start: usize, indexed: &[IndexedEntry])
-    requires room { start + length indexed.now ≤ length words.old }
-    ensures firsts { AreFirstsBelow words.new start (map (λ one. one.entry) indexed.now)
-        (length indexed.now) }
+fn write_firsts(words: &mut [u32], start: usize, ranges: &[Entry])
+    requires room { start + length ranges.now ≤ length words.old }
+    ensures firsts { AreFirstsBelow words.new start ranges.now (length ranges.now) }
     ensures before { KeepsBefore start words.old words.new }
 {
-    for at in 0..indexed.len() {
-        words[start + at] = entry_at(indexed, at).first();
+    for at in 0..ranges.len() {
+        words[start + at] = ranges[at].first();
     }
 }
 
@@ -86,12 +75,13 @@ fn write_end(words: &mut [u32], at: usize)
 }
 
 /// Writes the image of the entries of both directions.
-pub(crate) fn write_words(words: &mut [u32], guests: &[IndexedEntry], hosts: &[IndexedEntry])
-    requires guests { length guests.now < 4294967296 }
-    requires hosts { length hosts.now < 4294967296 }
+#[tactic(auto, using(crate::proofs::WordLemmas::few_ranges))]
+pub(crate) fn write_words(words: &mut [u32], guests: &[Entry], hosts: &[Entry])
+    requires guests { AreRanges guests.now }
+    requires hosts { AreRanges hosts.now }
     requires room { 4 + 4 * length guests.now + 4 * length hosts.now ≤ length words.old }
     ensures { (specs : List Specification) → Accepted specs
-        → AreSorted specs GuestToHost guests.now → AreSorted specs HostToGuest hosts.now
+        → AreRangesOf specs GuestToHost guests.now → AreRangesOf specs HostToGuest hosts.now
         → IsImage specs words.new }
 {
     let rows = 3 + guests.len() + hosts.len();

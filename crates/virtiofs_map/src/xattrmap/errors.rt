@@ -1,7 +1,6 @@
 //! Why a text of rules is rejected, and why a name or a list of names is.
 
 ghost use Rattle.std.specs.Prelude.{◌≡◌, ◌≢◌, Some, None};
-ghost use Rattle.virtiofs_map.specs.Printed.{pattern_text};
 ghost use Rattle.virtiofs_map.specs.declared.xattrmap.errors.ErrorKind.TheVariants.{OutOfMemory};
 
 use std::alloc::{AllocError, AllocFailed, Allocator, Global};
@@ -79,16 +78,6 @@ impl<A: Allocator> ErrorKind<A> {
     }
 }
 
-/// A pattern, as it begins a sentence.
-fn name_of(pattern: PatternField) -> &'static str
-    ensures { result.now ≡ pattern_text pattern }
-{
-    match pattern {
-        PatternField::Key => "Key",
-        PatternField::Prepend => "Prepend",
-    }
-}
-
 impl<A: Allocator> fmt::Display for ErrorKind<A> {
     ghost use Rattle.virtiofs_map.specs.Printed.{cause_text};
 
@@ -107,10 +96,10 @@ impl<A: Allocator> fmt::Display for ErrorKind<A> {
             ErrorKind::MapRuleViolation => write!(f, "a map rule has to stand last"),
             ErrorKind::NoRulesProvided => write!(f, "there are no rules"),
             ErrorKind::UnterminatedMapping => write!(f, "no rule fits the name"),
-            ErrorKind::NulInPattern { pattern } => {
-                let name = name_of(*pattern);
-                write!(f, "{name} holds NUL")
-            }
+            ErrorKind::NulInPattern { pattern } => match pattern {
+                PatternField::Key => write!(f, "Key holds NUL"),
+                PatternField::Prepend => write!(f, "Prepend holds NUL"),
+            },
             ErrorKind::OutOfMemory => write!(f, "Out of memory"),
         }
     }
@@ -124,15 +113,10 @@ impl<A: Allocator> fmt::Display for Error<A> {
     ghost output = { λ error. Some (rules_error_text error) };
 
     fn fmt<W: fmt::Write>(&self, f: &mut fmt::Formatter<W>) -> fmt::Result {
+        let cause = &self.cause;
         match self.rule {
-            Some(number) => {
-                let cause = &self.cause;
-                write!(f, "rule {number}: {cause}")
-            }
-            None => {
-                let cause = &self.cause;
-                write!(f, "{cause}")
-            }
+            Some(number) => write!(f, "rule {number}: {cause}"),
+            None => write!(f, "{cause}"),
         }
     }
 }
@@ -159,10 +143,7 @@ impl<A: Allocator> From<AllocError> for Error<A> {
     ghost from_gives = { λ _ error. error ≡ record { cause = OutOfMemory; rule = None } };
 
     fn from(_refused: AllocError) -> Error<A> {
-        Error {
-            cause: ErrorKind::OutOfMemory,
-            rule: None,
-        }
+        Error::from(ErrorKind::OutOfMemory)
     }
 }
 
@@ -170,9 +151,6 @@ impl<A: Allocator, T: Drop> From<AllocFailed<T>> for Error<A> {
     ghost from_gives = { λ _ error. error ≡ record { cause = OutOfMemory; rule = None } };
 
     fn from(_refused: AllocFailed<T>) -> Error<A> {
-        Error {
-            cause: ErrorKind::OutOfMemory,
-            rule: None,
-        }
+        Error::from(ErrorKind::OutOfMemory)
     }
 }

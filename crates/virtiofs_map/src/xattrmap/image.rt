@@ -8,14 +8,14 @@
 //! read nothing outside them: bytes that do not begin and end as an image does are no map.
 
 ghost use Rattle.std.specs.List.{before_first};
-ghost use Rattle.std.specs.Prelude.{◌≡◌, ◌+◌, ◌*◌, ◌<◌, ◌≤◌, ◌==◌, ◌↔◌, ℕ, List, length, min, IfNone, IfSome, IsSomeAnd, IsTrue, IsNone};
+ghost use Rattle.std.specs.Prelude.{◌≡◌, ◌+◌, ◌*◌, ◌<◌, ◌≤◌, ◌==◌, ◌↔◌, ◌++◌, ℕ, List, length, min, IfNone, IfSome, IsSomeAnd, IsTrue, IsNone};
 ghost use Rattle.std.specs.Str.{IsUtf8, chars};
 ghost use Rattle.virtiofs_map.specs.Audit.{Terminated};
 ghost use Rattle.virtiofs_map.specs.NamesImage.{HasImage, IsImage, IsNoImage, Says, WritesImage, image_length, longest_image};
+ghost use Rattle.virtiofs_map.specs.NamesImageParts.{Holds};
 ghost use Rattle.virtiofs_map.specs.Rule.{MappingRule};
 ghost use Rattle.virtiofs_map.specs.RuleText.{SaysRules};
 
-mod fill;
 pub(crate) mod header;
 mod list;
 pub(crate) mod stored;
@@ -24,7 +24,6 @@ pub(crate) mod write;
 pub use super::listed::cut_name;
 use crate::xattrmap::scopes::Side;
 use crate::xattrmap::{XattrMap, XattrMapRef};
-use fill::put;
 pub use list::{put_name, write_list};
 use std::alloc::Allocator;
 
@@ -106,6 +105,16 @@ impl<A: Allocator> XattrMap<A> {
         put(out, 0, image);
         ImageWritten::Written(image.len())
     }
+}
+
+/// Writes bytes at a place.
+fn put(out: &mut [u8], at: usize, bytes: &[u8])
+    requires room { at + length bytes.now ≤ length out.old }
+    ensures holds { (so_far first : List ℕ) → Holds so_far first out.old → at ≡ length so_far
+        → Holds (so_far ++ bytes.now) first out.new }
+    ensures same { length out.new ≡ length out.old }
+{
+    out[at..at + bytes.len()].copy_from_slice(bytes);
 }
 
 /// Looks up a name of that side in an image: what the first rule that fits it does. It does not

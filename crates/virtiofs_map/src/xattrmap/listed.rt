@@ -50,10 +50,9 @@ pub fn cut_name(list: &[u8], passed: usize) -> (&[u8], &[u8])
     }
 }
 
-/// What the guest sees of a name of the host. `NoMap`: the bytes of the map are no image.
+/// What the guest sees of a name of the host.
 #[derive(Clone, Copy)]
 pub(crate) enum Seen<'n> {
-    NoMap,
     Undecided,
     Hidden,
     Listed(&'n [u8]),
@@ -68,14 +67,13 @@ fn seen_as<'n>(decision: Decision<'_>, name: &'n [u8]) -> Seen<'n>
     ensures short { seen_length result ≤ length name.now }
 {
     match decision {
-        Decision::NoMap => Seen::NoMap,
-        Decision::Undecided => Seen::Undecided,
+        Decision::Undecided | Decision::NoMap => Seen::Undecided,
         Decision::Okay => Seen::Listed(name),
         Decision::Prefix(prepend) => {
             if prepend.len() <= name.len() {
                 Seen::Listed(&name[prepend.len()..])
             } else {
-                Seen::NoMap
+                Seen::Undecided
             }
         }
         Decision::Bad => Seen::Hidden,
@@ -173,7 +171,7 @@ impl<'m, 'a, A: Allocator> Iterator for ListedNames<'m, 'a, A> {
             match seen {
                 Seen::Listed(listed) => return Some(Ok(listed)),
                 Seen::Hidden => {}
-                Seen::Undecided | Seen::NoMap => {
+                Seen::Undecided => {
                     self.rest = &[];
                     return Some(Err(Error::from(ErrorKind::UnterminatedMapping)));
                 }

@@ -1,10 +1,10 @@
 //! Reads rules from text.
 
-ghost use Rattle.std.specs.Prelude.{◌≡◌, ◌≢◌, ◌∷◌, [], IfSome, IfNone, IfOk, IfErr, IsSomeAnd};
+ghost use Rattle.std.specs.Prelude.{◌≡◌, ◌≢◌, ◌∷◌, [], ◌++◌, IfSome, IfNone, IfOk, IfErr, IsSomeAnd};
 ghost use Rattle.std.specs.Str.{chars, IsUtf8};
 ghost use Rattle.virtiofs_map.specs.Refusal.{OutOfMemoryOr};
 ghost use Rattle.virtiofs_map.specs.Rule.{RuleType};
-ghost use Rattle.virtiofs_map.specs.RuleParts.{type_of, scope_of, head_of, as_written, IsOpened, BeginsWithFault};
+ghost use Rattle.virtiofs_map.specs.RuleParts.{type_of, scope_of, head_of, as_written, rules_for, IsOpened, BeginsWithFault};
 ghost use Rattle.virtiofs_map.specs.RuleParts.{HasPatternFault, TellsFault};
 ghost use Rattle.virtiofs_map.specs.RuleText.{ScopeName, type_word, scope_word, head_fields, rule_fields, Fields};
 ghost use Rattle.virtiofs_map.specs.RuleText.{HasNoNul, RuleThen, SaysRules, CountsRules};
@@ -14,9 +14,23 @@ ghost use Rattle.virtiofs_map.specs.Separator.{Lacks};
 use crate::text::cut_at;
 use crate::xattrmap::errors::{Error, ErrorKind, PatternField};
 use crate::xattrmap::rules::{RuleKind, Rules};
-use crate::xattrmap::scopes::ScopeWord;
-use crate::xattrmap::written::{Head, WrittenRule, push_rules};
-use std::alloc::Allocator;
+use crate::xattrmap::scopes::{Scope, ScopeWord};
+use std::alloc::{AllocError, Allocator};
+
+/// What comes before the key of a rule: its type and scope, or the word `map`.
+#[derive(Clone, Copy, PartialEq, Eq)]
+pub(crate) enum Head {
+    Typed(RuleKind, ScopeWord),
+    Map,
+}
+
+/// A rule as it is written.
+#[derive(Clone, Copy)]
+pub(crate) struct WrittenRule<'a> {
+    head: Head,
+    key: &'a str,
+    prepend: &'a str,
+}
 
 /// The type that a word names.
 fn kind_of(word: &str) -> Option<RuleKind>
@@ -57,7 +71,7 @@ fn first_char(text: &str) -> Option<(char, &str)>
 }
 
 /// The type and scope that the text begins with, or the word `map`, and the text after them.
-fn head<A: Allocator + Copy>(
+fn read_head<A: Allocator + Copy>(
     alloc: A,
     text: &str,
     delimiter: char,
@@ -124,7 +138,7 @@ fn fields<A: Allocator + Copy>(
         IsUtf8 found.0.key.now × IsUtf8 found.0.prepend.now × IsUtf8 found.1.now) }
     ensures err { IfErr result (TellsFault (HasRuleFault delimiter (chars text.now))) }
 {
-    let (head, rest) = head(alloc, text, delimiter)?;
+    let (head, rest) = read_head(alloc, text, delimiter)?;
     let (key, rest) = pattern(rest, delimiter, PatternField::Key)?;
     let (prepend, rest) = pattern(rest, delimiter, PatternField::Prepend)?;
     Ok((WrittenRule { head, key, prepend }, rest))
@@ -153,6 +167,28 @@ fn next_rule<A: Allocator + Copy>(
     Ok((rule, after))
 }
 
+/// The rules, and behind them those that a written one stands for.
+fn push_rules<A: Allocator>(
+    rules: Rules<A>,
+    written: WrittenRule<'_>,
+) -> Result<Rules<A>, AllocError>
+    requires { IsUtf8 written.key.now × IsUtf8 written.prepend.now }
+    ensures { IfOk result (λ more. more.list ≡ rules.list ++ rules_for written.entry) }
+{
+    let (key, prepend) = (written.key.as_bytes(), written.prepend.as_bytes());
+    let all = Scope::from(ScopeWord::All);
+    match written.head {
+        Head::Typed(kind, scope) => rules.extended(kind, Scope::from(scope), key, prepend),
+        Head::Map if key.is_empty() => rules
+            .extended(RuleKind::Prefix, all, key, prepend)?
+            .extended(RuleKind::Bad, all, &[], &[]),
+        Head::Map => rules
+            .extended(RuleKind::Prefix, all, key, prepend)?
+            .extended(RuleKind::Bad, all, prepend, key)?
+            .extended(RuleKind::Okay, all, &[], &[]),
+    }
+}
+
 /// The rules that the text stands for, and how many are written in it. A written `map` rule is one.
 pub(crate) fn read_rules<A: Allocator + Copy>(
     alloc: A,
@@ -172,10 +208,10 @@ pub(crate) fn read_rules<A: Allocator + Copy>(
             Ok(found) => found,
             Err(cause) => return Err(cause.in_rule(number)),
         };
-        push_rules(&mut rules, rule)?;
+        rules = push_rules(rules, rule)?;
         rest = after.trim_ascii_start();
     }
-    if rules.is_empty() {
+    if number == 0 {
         return Err(Error::from(ErrorKind::NoRulesProvided));
     }
     Ok((rules, number))

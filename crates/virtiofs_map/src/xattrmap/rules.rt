@@ -2,16 +2,18 @@
 //! two or three rules that it is short for. The patterns of all rules stand in one memory.
 
 ghost use Rattle.std.specs.Option.{option_map};
-ghost use Rattle.std.specs.Prelude.{◌≡◌, ◌↔◌, ◌+◌, ◌<◌, ◌==◌, ℕ, List, ◌++◌, ◌∷◌, [], length, slice_get, IfOk, IsSomeAnd, IsTrue};
-ghost use Rattle.std.specs.Prelude.{MatchOption, OnOk};
-ghost use Rattle.virtiofs_map.specs.NodeParts.{AreSpans, IsSpan};
+ghost use Rattle.std.specs.Prelude.{◌≡◌, ◌↔◌, ◌++◌, ◌∷◌, [], length, slice_get, None, IfOk, IsSomeAnd, IsTrue, MatchOption};
 ghost use Rattle.virtiofs_map.specs.FirstRule.{acts, pattern};
-ghost use Rattle.virtiofs_map.specs.NamesImage.{pattern_bytes};
-ghost use Rattle.virtiofs_map.specs.Rule.{MappingRule, same_rule};
-ghost use Rattle.virtiofs_map.specs.RuleParts.{rule_meant, rule_with};
+ghost use Rattle.virtiofs_map.specs.NamesImage.{acts_number};
+ghost use Rattle.virtiofs_map.specs.NodeParts.{IsSpan};
+ghost use Rattle.virtiofs_map.specs.Rule.{same_rule};
+ghost use Rattle.virtiofs_map.specs.RuleParts.{AreKept, rule_meant, rule_with};
 
+use crate::xattrmap::image::stored::{SHARE, read_rule, row_at, span_of};
+use crate::xattrmap::le_u64::push_le_u64;
 use crate::xattrmap::scopes::{Scope, Side};
 use crate::xattrmap::spans::Span;
+use crate::xattrmap::trie::ROW;
 use std::alloc::{AllocError, Allocator};
 use std::marker::Model;
 
@@ -30,6 +32,7 @@ pub enum RuleKind {
 }
 
 impl RuleKind {
+    ghost use Rattle.virtiofs_map.specs.NamesImageParts.{type_numbered};
     ghost use Rattle.virtiofs_map.specs.Rule.{type_number};
     ghost use Rattle.virtiofs_map.specs.RuleParts.{type_of};
 
@@ -48,7 +51,7 @@ impl RuleKind {
     /// The type of that number.
     #[inline(always)]
     pub(crate) fn numbered(number: u64) -> RuleKind
-        ensures { number < 4 → type_number (type_of result) ≡ number }
+        ensures { type_of result ≡ type_numbered number }
     {
         match number {
             0 => RuleKind::Prefix,
@@ -89,6 +92,15 @@ impl<'m> RuleRef<'m> {
         }
     }
 
+    /// What the rule does and on which sides, as a number.
+    fn acts_number(self) -> u64
+        ensures { result ≡ acts_number (rule_meant self.entry) }
+    {
+        let client = if self.acts_on(Side::Client) { 4 } else { 0 };
+        let server = if self.acts_on(Side::Server) { 8 } else { 0 };
+        self.kind.number() + client + server
+    }
+
     /// Whether the two rules are the same.
     pub fn is_same(self, other: RuleRef<'_>) -> bool
         ensures value { result ≡ same_rule (rule_meant self.entry) (rule_meant other.entry) }
@@ -102,36 +114,28 @@ impl<'m> RuleRef<'m> {
     }
 }
 
-/// A rule as it is kept.
-#[derive(Clone, Copy)]
-pub(crate) struct RuleEntry {
-    kind: RuleKind,
-    scope: Scope,
-    span: Span,
-}
-
-/// The rules in order. A contract sees them as their list, the bytes of all patterns, and where
-/// those of each rule stand among them.
+/// The rules in order, as an image of a map has them: a row for each, and the bytes of all patterns,
+/// one after the other.
 #[derive(Drop)]
 pub(crate) struct Rules<A: Allocator> {
-    /// The patterns, one after the other.
+    rows: Vec<u8, A>,
     bytes: Vec<u8, A>,
-    entries: Vec<RuleEntry, A>,
 }
 
 impl<A: Allocator> Model for Rules<A> {
-    ghost use Rattle.std.specs.Prelude.{map};
-    ghost use Rattle.virtiofs_map.specs.RuleParts.{AreKept, KeptRules, rule_kept};
+    ghost use Rattle.virtiofs_map.specs.NamesImageParts.{rules_stored};
+    ghost use Rattle.virtiofs_map.specs.RuleParts.{AreKept, KeptRules};
 
     ghost Value = { KeptRules };
 
     ghost view = { λ rules. record {
-      list = map (rule_kept rules.bytes.items) rules.entries.items;
+      list = rules_stored rules.bytes.items rules.rows.items;
+      rows = rules.rows.items;
       bytes = rules.bytes.items;
-      spans = map (λ entry. entry.span) rules.entries.items;
     } };
 
-    ghost invariant = { λ rules. AreKept rules.bytes.items rules.entries.items };
+    ghost invariant = { λ rules. AreKept
+        (rules_stored rules.bytes.items rules.rows.items) rules.rows.items rules.bytes.items };
 }
 
 impl<A: Allocator> Rules<A> {
@@ -139,108 +143,87 @@ impl<A: Allocator> Rules<A> {
     pub(crate) fn len(&self) -> usize
         ensures { result ≡ length self.now.list }
     {
-        self.entries.len()
-    }
-
-    /// Whether there is no rule.
-    pub(crate) fn is_empty(&self) -> bool
-        ensures { result ≡ (length self.now.list == 0) }
-    {
-        self.entries.is_empty()
+        self.rows.len() / ROW
     }
 
     /// The rule at a place.
     pub(crate) fn get(&self, place: usize) -> Option<RuleRef<'_>>
         ensures { option_map rule_meant result ≡ slice_get self.now.list place }
     {
-        let RuleEntry { kind, scope, span } = *self.entries.get(place)?;
-        let key = &self.bytes[span.key..span.prepend];
-        let prepend = &self.bytes[span.prepend..span.end];
-        Some(RuleRef {
-            kind,
-            scope,
-            key,
-            prepend,
-        })
+        read_rule(self.rows.as_slice(), self.bytes.as_slice(), place)
+    }
+
+    /// The rows of the rules.
+    pub(crate) fn rows(&self) -> &[u8]
+        ensures { result.now ≡ self.now.rows }
+    {
+        self.rows.as_slice()
     }
 
     /// The bytes of all patterns.
     pub(crate) fn bytes(&self) -> &[u8]
         ensures bytes { result.now ≡ self.now.bytes }
-        ensures spans { AreSpans self.now.bytes self.now.list self.now.spans }
-        ensures whole { length self.now.bytes ≡ pattern_bytes self.now.list }
+        ensures kept { AreKept self.now.list self.now.rows self.now.bytes }
     {
         self.bytes.as_slice()
     }
 
     /// Where the patterns of the rule at a place stand among the bytes.
     pub(crate) fn span(&self, place: usize) -> Option<Span>
-        ensures here { result ≡ slice_get self.now.spans place }
-        ensures rule { MatchOption result
+        ensures { MatchOption result
             (slice_get self.now.list place ≡ None)
             (λ span. IsSomeAnd (slice_get self.now.list place)
             (λ rule. IsSpan self.now.bytes rule span)) }
     {
-        let entry = self.entries.get(place)?;
-        Some(entry.span)
+        let row = row_at(self.rows.as_slice(), place)?;
+        Some(span_of(row))
     }
 
-    /// Appends a rule.
-    pub(crate) fn push(
-        &mut self,
+    /// The rules, and one more behind them.
+    pub(crate) fn extended(
+        self,
         kind: RuleKind,
         scope: Scope,
         key: &[u8],
         prepend: &[u8],
-    ) -> Result<(), AllocError>
-        ensures { OnOk result (self.new.list
-            ≡ self.old.list ++ rule_with kind scope key.now prepend.now ∷ []) }
+    ) -> Result<Rules<A>, AllocError>
+        ensures { IfOk result (λ rules.
+            rules.list ≡ self.list ++ rule_with kind scope key.now prepend.now ∷ []) }
     {
-        let start = self.bytes.len();
-        let Ok(span) = push_patterns(&mut self.bytes, key, prepend) else {
-            self.bytes.truncate(start);
-            return Err(AllocError);
+        let rule = RuleRef {
+            kind,
+            scope,
+            key,
+            prepend,
         };
-        let Ok(()) = self.entries.push(RuleEntry { kind, scope, span }) else {
-            self.bytes.truncate(start);
+        let Rules {
+            mut rows,
+            mut bytes,
+        } = self;
+        let start = bytes.len();
+        bytes.extend_from_slice(key)?;
+        let middle = bytes.len();
+        bytes.extend_from_slice(prepend)?;
+        let end = bytes.len();
+        if end as u64 >= SHARE {
             return Err(AllocError);
-        };
-        Ok(())
+        }
+        push_le_u64(&mut rows, start as u64 + SHARE * rule.acts_number())?;
+        push_le_u64(&mut rows, middle as u64)?;
+        push_le_u64(&mut rows, end as u64)?;
+        Ok(Rules { rows, bytes })
     }
 }
 
 impl<A: Allocator + Copy> Rules<A> {
     /// No rules.
+    #[tactic(auto, unfolding(crate::specs::NamesImageParts::rules_stored))]
     pub(crate) fn new(alloc: A) -> Rules<A>
         ensures { result.list ≡ [] }
     {
         Rules {
+            rows: Vec::new(alloc),
             bytes: Vec::new(alloc),
-            entries: Vec::new(alloc),
         }
     }
-}
-
-/// Appends the patterns of a rule. Where memory is refused, a part of them may have been appended.
-fn push_patterns<A: Allocator>(
-    bytes: &mut Vec<u8, A>,
-    key: &[u8],
-    prepend: &[u8],
-) -> Result<Span, AllocError>
-    ensures more { (more : List ℕ) × (bytes.new.items ≡ bytes.old.items ++ more) }
-    ensures longer { OnOk result (length bytes.new.items
-        ≡ length bytes.old.items + length key.now + length prepend.now) }
-    ensures span { IfOk result (λ span. (rule : MappingRule) → rule.key ≡ key.now
-        → rule.prepend ≡ prepend.now → IsSpan bytes.new.items rule span) }
-{
-    let start = bytes.len();
-    bytes.extend_from_slice(key)?;
-    let middle = bytes.len();
-    bytes.extend_from_slice(prepend)?;
-    let end = bytes.len();
-    Ok(Span {
-        key: start,
-        prepend: middle,
-        end,
-    })
 }

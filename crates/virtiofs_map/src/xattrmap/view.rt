@@ -2,23 +2,26 @@
 
 ghost use Rattle.std.specs.List.{before_first};
 ghost use Rattle.std.specs.Option.{option_map};
-ghost use Rattle.std.specs.Prelude.{◌≡◌, ◌≢◌, ◌==◌, ◌↔◌, ◌≤◌, ℕ, List, length, take, slice_get, All, IsNone, IsSomeAnd, is_some};
+ghost use Rattle.std.specs.Prelude.{◌≡◌, ◌≢◌, ◌==◌, ◌↔◌, ◌≤◌, ℕ, List, length, take, slice_get, All, IfSome, IsNone, IsSomeAnd, is_some};
 ghost use Rattle.virtiofs_map.specs.NodeParts.{answer_of};
 ghost use Rattle.virtiofs_map.specs.FirstRule.{CountsFronts, CountsLookup};
 ghost use Rattle.virtiofs_map.specs.Names.{deciding, first};
 ghost use Rattle.virtiofs_map.specs.NamesImage.{IsImage, IsMapOf, IsNoImage, Says};
 ghost use Rattle.virtiofs_map.specs.NamesImageParts.{HasTrie};
-ghost use Rattle.virtiofs_map.specs.Rule.{MappingRule, same_rules};
+ghost use Rattle.virtiofs_map.specs.Rule.{HasNoZero, MappingRule, same_rules};
 ghost use Rattle.virtiofs_map.specs.RuleParts.{rule_meant};
 ghost use Rattle.virtiofs_map.specs.declared.xattrmap.scopes.Side.{Side};
 
 use crate::steps::Steps;
+use crate::xattrmap::XattrMap;
 use crate::xattrmap::image::Decision;
 use crate::xattrmap::image::header::{HEADER, is_image, part, part_start};
 use crate::xattrmap::image::stored::{prepend_at, read_rule};
+use crate::xattrmap::names::XattrName;
 use crate::xattrmap::rules::RuleRef;
 use crate::xattrmap::scopes::Side;
 use crate::xattrmap::trie::{NO_ANSWER, ROW, Trie, first_place, look_up};
+use std::alloc::Allocator;
 
 /// A map of names, lent for reading: bytes that begin and end as the image of a map does.
 ///
@@ -117,7 +120,7 @@ impl<'m> XattrMapRef<'m> {
             }
             return match prepend_at(self.bytes, (answer / 4) as usize) {
                 Some(prepend) => Decision::Prefix(prepend),
-                None => Decision::NoMap,
+                None => Decision::Undecided,
             };
         }
         if !is_high {
@@ -154,5 +157,42 @@ impl<'m> XattrMapRef<'m> {
     {
         let (answer, _) = look_up(self.trie(side), name);
         answer != NO_ANSWER
+    }
+}
+
+impl<A: Allocator> XattrMap<A> {
+    /// How many rules there are, where each `map` rule counts as the two or three rules that it is
+    /// short for.
+    pub fn rule_count(&self) -> usize
+        ensures { result ≡ length self.now }
+    {
+        self.as_ref().len()
+    }
+
+    /// The rule at a place of the list, counted from 0, lent for reading; `None` behind the last one.
+    /// Each `map` rule of the text is replaced by the rules that it is short for.
+    pub fn rule(&self, place: usize) -> Option<RuleRef<'_>>
+        ensures here { option_map rule_meant result ≡ slice_get self.now place }
+        ensures no_zero { IfSome result (λ rule. HasNoZero (rule_meant rule)) }
+    {
+        self.as_ref().rule(place)
+    }
+
+    /// Returns the position of the first rule that fits the name on that side, counted from 0 in
+    /// the list of rules, where each `map` rule is replaced by the rules that it is short for;
+    /// `None` if no rule fits. It does not allocate.
+    ///
+    /// The pattern of a rule is its key on the client's side, and its prepend on the server's. The
+    /// call counts 1 step, and 1 more for each byte of the longest beginning that the name shares
+    /// with a pattern of that side. If a rule decides the name, that is at least 1 + the length of
+    /// its pattern. It is at most 1 + the length of the name, and at most 1 + the length of the
+    /// longest pattern of that side.
+    pub fn first_rule(&self, side: Side, name: XattrName<'_>, steps: &mut Steps) -> Option<usize>
+        ensures first { result ≡ first side self.now name.entry.bytes.now }
+        ensures steps { CountsLookup side self.now name.entry.bytes.now steps.old steps.new }
+        // One step more is counted than the most bytes that the name shares with a pattern.
+        ensures fronts { CountsFronts side self.now name.entry.bytes.now steps.old steps.new }
+    {
+        self.as_ref().first_rule(side, name.bytes, steps)
     }
 }

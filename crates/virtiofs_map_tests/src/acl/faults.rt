@@ -59,20 +59,16 @@ static SAID: [(AclError, &str); 4] = [
     (Room { needed: 8 }, "there are 8 entries"),
 ];
 
-/// A fault of entry 3 of a list, and its text.
+/// A fault of entry 3 of a list, and its text behind `entry 3: `.
 static SAID_OF_ENTRIES: [(EntryFault, &str); 5] = [
-    (UnknownTag, "entry 3: there is no such tag"),
-    (Permission, "entry 3: the permissions are above 7"),
-    (NoId, "entry 3: 4294967295 is no id"),
-    (
-        Forbidden,
-        "entry 3: use of the id has been configured to fail",
-    ),
-    (
-        Merges,
-        "entry 3: the id would become that of an earlier entry",
-    ),
+    (UnknownTag, "there is no such tag"),
+    (Permission, "the permissions are above 7"),
+    (NoId, "4294967295 is no id"),
+    (Forbidden, FORBIDDEN),
+    (Merges, "the id would become that of an earlier entry"),
 ];
+
+const FORBIDDEN: &str = "use of the id has been configured to fail";
 
 /// A fault of a capability, and its text.
 static SAID_OF_CAPABILITIES: [(RootFault, &str); 6] = [
@@ -80,10 +76,7 @@ static SAID_OF_CAPABILITIES: [(RootFault, &str); 6] = [
     (RootFault::Revision { revision: 4 }, "the revision is 4"),
     (RootFault::Length, "the length is not that of the revision"),
     (RootFault::NoId, "4294967295 is no id"),
-    (
-        RootFault::Forbidden,
-        "use of the id has been configured to fail",
-    ),
+    (RootFault::Forbidden, FORBIDDEN),
     (RootFault::RootMoves, "the revision has no id of root"),
 ];
 
@@ -130,8 +123,8 @@ fn prints_why(rt: HostRuntime) -> Result<(), Fail> {
         assert_eq!(rt; fault.to_string(rt.alloc())?.as_str(), *text);
     }
     for &(fault, text) in &SAID_OF_ENTRIES {
-        let told = Entry { entry: 3, fault };
-        assert_eq!(rt; told.to_string(rt.alloc())?.as_str(), text);
+        let told = Entry { entry: 3, fault }.to_string(rt.alloc())?;
+        assert_eq!(rt; told.as_str().strip_prefix("entry 3: "), Some(text));
     }
     for (fault, text) in &SAID_OF_CAPABILITIES {
         assert_eq!(rt; fault.to_string(rt.alloc())?.as_str(), *text);

@@ -5,7 +5,7 @@ use std::test::Fail;
 use virtiofs_host::allowed::is_allowed;
 use virtiofs_host::error::ReadError;
 use virtiofs_host::id_map::read_id_map;
-use virtiofs_host::subordinate::SubIds;
+use virtiofs_host::subordinate::read_subordinate;
 use virtiofs_map::idmap::UidMap;
 
 /// Numbers that are read: the first id inside, the first one outside, and how many there are.
@@ -89,102 +89,40 @@ fn the_first_wrong_line_is_named(rt: HostRuntime) {
     }
 }
 
-/// One's own id, the subordinate ids, the ranges, and the place of the first that is refused.
-type Asked = (
-    u32,
-    &'static [(u32, u32)],
-    &'static [Numbers],
-    Option<usize>,
-);
+/// One's own id, the lines of `x` in /etc/subuid, the ranges, and the place of the first that is
+/// refused.
+type Asked = (u32, &'static str, &'static str, Option<usize>);
 
 // What newuidmap of shadow 4.13 did for a user with these lines in /etc/subuid.
 static ALLOWED: [Asked; 17] = [
-    (
-        0,
-        &[(100_000, 10), (100_010, 10)],
-        &[(0, 100_000, 20)],
-        None,
-    ),
-    (
-        0,
-        &[(100_010, 10), (100_000, 10)],
-        &[(0, 100_000, 20)],
-        None,
-    ),
-    (
-        0,
-        &[(100_000, 10), (100_010, 10)],
-        &[(0, 100_000, 21)],
-        Some(0),
-    ),
-    (
-        0,
-        &[(100_000, 10), (100_011, 10)],
-        &[(0, 100_000, 20)],
-        Some(0),
-    ),
-    (
-        0,
-        &[(100_000, 10), (100_005, 10)],
-        &[(0, 100_000, 15)],
-        None,
-    ),
-    (0, &[(100_000, 10)], &[(0, 0, 1)], None),
-    (0, &[(100_000, 10)], &[(0, 5, 1)], Some(0)),
-    (0, &[(100_000, 10)], &[(0, 100_000, 0)], Some(0)),
-    (0, &[], &[(0, 0, 2)], Some(0)),
+    (0, "x:100000:10\nx:100010:10", "0 100000 20\n", None),
+    (0, "x:100010:10\nx:100000:10", "0 100000 20\n", None),
+    (0, "x:100000:10\nx:100010:10", "0 100000 21\n", Some(0)),
+    (0, "x:100000:10\nx:100011:10", "0 100000 20\n", Some(0)),
+    (0, "x:100000:10\nx:100005:10", "0 100000 15\n", None),
+    (0, "x:100000:10", "0 0 1\n", None),
+    (0, "x:100000:10", "0 5 1\n", Some(0)),
+    (0, "x:100000:10", "0 100000 0\n", Some(0)),
+    (0, "", "0 0 2\n", Some(0)),
+    (1000, "x:100000:65536", "0 1000 1\n1 100000 65535\n", None),
+    (1000, "x:100000:65536", "0 1000 1\n1 100000 65536\n", None),
     (
         1000,
-        &[(100_000, 65536)],
-        &[(0, 1000, 1), (1, 100_000, 65535)],
-        None,
-    ),
-    (
-        1000,
-        &[(100_000, 65536)],
-        &[(0, 1000, 1), (1, 100_000, 65536)],
-        None,
-    ),
-    (
-        1000,
-        &[(100_000, 65536)],
-        &[(0, 1000, 1), (1, 100_000, 65537)],
+        "x:100000:65536",
+        "0 1000 1\n1 100000 65537\n",
         Some(1),
     ),
-    (1000, &[(100_000, 65536)], &[(0, 99_999, 2)], Some(0)),
-    (
-        1000,
-        &[(4_294_967_290, 100)],
-        &[(0, 4_294_967_290, 5)],
-        None,
-    ),
-    (
-        1000,
-        &[(4_294_967_290, 100)],
-        &[(0, 4_294_967_290, 6)],
-        Some(0),
-    ),
-    (
-        1000,
-        &[(0, 4_294_967_295)],
-        &[(4_294_967_294, 1000, 2)],
-        Some(0),
-    ),
-    (
-        1000,
-        &[(5, 0), (4_294_967_295, 4_294_967_295)],
-        &[(0, 5, 1)],
-        Some(0),
-    ),
+    (1000, "x:100000:65536", "0 99999 2\n", Some(0)),
+    (1000, "x:4294967290:100", "0 4294967290 5\n", None),
+    (1000, "x:4294967290:100", "0 4294967290 6\n", Some(0)),
+    (1000, "x:0:4294967295", "4294967294 1000 2\n", Some(0)),
+    (1000, "x:5:0\nx:4294967295:4294967295", "0 5 1\n", Some(0)),
 ];
 
-fn refused_of(alloc: Global, asked: &Asked) -> Result<Option<usize>, AllocError> {
-    let &(own, lines, numbers, _) = asked;
-    let mut given = Vec::new(alloc);
-    for &(first, count) in lines {
-        given.push(SubIds { first, count })?;
-    }
-    let ranges = ranges_of(alloc, numbers)?;
+fn refused_of(alloc: Global, asked: &Asked) -> Result<Option<usize>, Fail> {
+    let &(own, lines, text, _) = asked;
+    let given = read_subordinate(alloc, lines.as_bytes(), b"x", own)?;
+    let ranges = read_id_map(alloc, text.as_bytes())?;
     Ok(
         ranges
             .iter()
@@ -195,9 +133,8 @@ fn refused_of(alloc: Global, asked: &Asked) -> Result<Option<usize>, AllocError>
 #[test]
 fn ranges_are_refused_as_newuidmap_does(rt: HostRuntime) -> Result<(), Fail> {
     for asked in &ALLOWED {
-        let &(own, lines, numbers, wanted) = asked;
         let told = refused_of(rt.alloc(), asked)?;
-        assert_eq!(rt; told, wanted, "{own} {lines:?} {numbers:?}");
+        assert_eq!(rt; told, asked.3, "{asked:?}");
     }
     Ok(())
 }

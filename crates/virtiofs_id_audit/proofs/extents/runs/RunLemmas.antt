@@ -1,13 +1,13 @@
 -- Neighbouring ids that are all of some kind, or of which none is.
 use Rattle.std.proofs.Common.{◌≡◌, ◌≢◌, ◌↔◌, Bool, inl, inr, ℕ, zero, suc, ◌+◌, ◌-◌, ◌<◌, ◌≤◌, true, false, min, List}
-use Rattle.std.proofs.Common.{Contains, Some, refl, sym, ◌∙◌, subst, arith, rules}
+use Rattle.std.proofs.Common.{Some, refl, sym, ◌∙◌, subst, arith, rules}
 use Rattle.std.proofs.Math.Bool.{beq}
 use Rattle.std.proofs.lemmas.Bool.{false≢true, true_from_ne_false, false_from_ne_true}
 use Rattle.std.proofs.lemmas.Option.{same_Some}
-use Rattle.virtiofs_id_audit.specs.ExtentParts.{IsSought, of_bad, IsRun, AreStarts, BecomesOne}
-use Rattle.virtiofs_id_audit.specs.IdAudit.{IsAstray, GoesInto}
-use Rattle.virtiofs_id_audit.specs.IdAuditParts.{Hold, ReturnsBy, IsMoved}
-use Rattle.virtiofs_id_audit.specs.declared.extents.runs.Run.{Run}
+use Rattle.virtiofs_id_audit.specs.ExtentParts.{IsSought, of_bad, IsRun, AreStarts}
+use Rattle.virtiofs_id_audit.specs.IdAudit.{IsAstray, GoesInto, Hold}
+use Rattle.virtiofs_id_audit.specs.IdAuditParts.{ReturnsBy, BecomesOne, IsMoved}
+use Rattle.virtiofs_id_audit.specs.declared.spans.Run.{Run}
 use Rattle.virtiofs_id_audit.specs.declared.spans.Span.{Span}
 use Rattle.virtiofs_map.specs.Build.{Accepted}
 use Rattle.virtiofs_map.specs.Mapping.{Becomes}
@@ -15,10 +15,10 @@ use Rattle.virtiofs_map.specs.Pieces.{IsStretch, is_one_to_one, value_by, value_
 use Rattle.virtiofs_map.specs.declared.cmdline.IdMap.{IdMap}
 use Rattle.virtiofs_map.specs.declared.soft_idmap.entry.Direction.TheVariants.{GuestToHost, HostToGuest}
 use Rattle.virtiofs_map.specs.declared.soft_idmap.piece.Outcome.{Outcome}
-use Rattle.virtiofs_map.specs.declared.soft_idmap.piece.Outcome.TheVariants.{Kept, OneToOne, AllToOne, Forbidden}
+use Rattle.virtiofs_map.specs.declared.soft_idmap.piece.Outcome.TheVariants.{OneToOne}
 use Rattle.virtiofs_map.specs.declared.soft_idmap.piece.Piece.{Piece}
 use Rattle.virtiofs_id_audit.proofs.PieceLemmas.{value-each}
-use Rattle.virtiofs_id_audit.proofs.RoundTripLemmas.{IsAstray-moved, IsMoved-astray}
+use Rattle.virtiofs_id_audit.proofs.RoundTripLemmas.{IsMoved-astray, astray-IsMoved}
 use Rattle.virtiofs_map.proofs.ForCallers.{lookup_one_value}
 
 -- ---- numbers of a piece
@@ -39,14 +39,6 @@ IsRun-each piece spans to run order each start is = record {
       ));
 }
 
--- what the first one becomes, where they become others one after the other
-start_by : (outcome : Outcome) (first : ℕ) → is_one_to_one outcome ≡ true
-    → (to : ℕ) × (Some to ≡ value_by outcome first first)
-start_by Kept first each = (first, refl)
-start_by (OneToOne to) first each = (to + (first - first), refl)
-start_by (AllToOne to) first each = absurd (false≢true each)
-start_by Forbidden first each = absurd (false≢true each)
-
 -- all of them are ids
 each_fits : (outcome : Outcome) (first last to : ℕ) → is_one_to_one outcome ≡ true
     → Some to ≡ value_by outcome first first → IsNamed outcome first last → first ≤ last → last ≤ 4294967295
@@ -63,13 +55,7 @@ IsRun-moved piece to is order named =
       from = order;
       to = omega arith;
       each = λ n from below. (
-        λ _. record {
-          from = from;
-          to = below;
-          value = to + (n - piece.first);
-          becomes = rw is refl;
-          moved = λ same. named'.0 (omega arith);
-        },
+        λ _. (to + (n - piece.first), rw is refl, λ same. named'.0 (omega arith)),
         λ _. refl,
       );
     }
@@ -95,68 +81,71 @@ IsRun-into specs hosts there n last run accepted stretch first is_id is last_is 
       into : (m : ℕ) → n ≤ m → m ≤ last → BecomesOne there hosts m → GoesInto specs hosts m
       into m from below (host, becomes, is_one) = search rules
 
-module _ (specs : List IdMap) (trip : Piece) (n last : ℕ) (moved : Run) (accepted : Accepted specs)
-    (first : trip.first ≡ n) (returns : ReturnsBy specs trip) (is_moved : IsRun (IsMoved trip) trip.first trip.last moved)
-    (from : n ≤ last) (within : last ≤ 4294967294) where
-  moved_astray : moved.all ≡ true → (m : ℕ) → n ≤ m → m ≤ moved.last → m < 4294967295 → IsAstray specs m
-  moved_astray every m from to is_id =
-      IsAstray-moved specs trip m accepted returns is_id ((is_moved.each m (omega arith) to).0 every)
+pub IsRun-trip : (specs : List IdMap) (trip : Piece) (n last : ℕ) (moved : Run) → Accepted specs → trip.first ≡ n
+    → ReturnsBy specs trip → IsRun (IsMoved trip) trip.first trip.last moved → n < 4294967295
+    → last ≡ min moved.last 4294967294
+    → IsRun (IsAstray specs) n 4294967294 (record { last = last; all = moved.all })
+IsRun-trip specs trip n last moved accepted first returns is is_id last_is = record {
+  from = omega (arith, is.from);
+  to = omega arith;
+  each = λ m from to.
+      (let at = is.each m (omega arith) (omega arith) in
+      let back = returns m (omega arith) (omega (arith, is.to)) in (
+        λ every. IsMoved-astray specs trip m accepted back (omega arith) (at.0 every),
+        λ astray. at.1 (astray-IsMoved specs trip m accepted back astray),
+      ));
+}
 
-  -- as far as what is known of the way back goes
-  pub IsRun-trip : last ≤ moved.last → IsRun (IsAstray specs) n 4294967294 (record { last = last; all = moved.all })
-  IsRun-trip up_to = record {
-    from = from;
-    to = within;
-    each = λ m from to. (
-      λ every. moved_astray every m from (omega arith) (omega arith),
-      λ astray. (is_moved.each m (omega arith) (omega arith)).1
-          (IsMoved-astray specs trip m accepted returns (omega arith) (omega (arith, is_moved.to)) astray),
+-- those after one that is astray, up to a start
+module _ (specs : List IdMap) (there : Piece) (n last : ℕ) (starts : List Span) (next : Run) (accepted : Accepted specs)
+    (astray : IsAstray specs n) (stretch : IsStretch specs GuestToHost there) (first : there.first ≡ n)
+    (each : is_one_to_one there.becomes ≡ true) (are : AreStarts specs starts)
+    (free : IsRun (Hold starts) (n + 1) 4294967295 next) (none : next.all ≡ false)
+    (last_is : last ≡ min (min there.last next.last) 4294967294) where
+  start : Some astray.host ≡ value_in there there.first
+  start =
+      sym (lookup_one_value specs accepted GuestToHost there.first _ _
+      (stretch.becomes there.first (omega arith) stretch.order)
+      (subst (λ (k : ℕ). Becomes specs GuestToHost k (Some astray.host)) (sym first) astray.goes.becomes))
+
+  goes : (d : ℕ) → n + d ≤ last → Becomes specs GuestToHost (n + d) (Some (astray.host + d))
+  goes d below =
+      let far : n + d - there.first ≡ d = omega arith in
+      rw (value-each there astray.host (n + d) each start (omega arith), far)
+      at (stretch.becomes (n + d) (omega arith) (omega arith))
+
+  not_back : (d : ℕ) → n + d ≤ last → ¬ Becomes specs HostToGuest (astray.host + d) (Some (n + d))
+  not_back zero below back =
+      let host : astray.host + 0 ≡ astray.host = omega arith in
+      let guest : n + 0 ≡ n = omega arith in
+      astray.not_back (rw (host, guest) at back)
+  not_back (suc d) below back =
+      let fits : astray.host + (there.last - there.first) ≤ 4294967295 =
+      each_fits there.becomes there.first there.last astray.host each start stretch.named stretch.order
+      stretch.within in
+      elim (are (astray.host + suc d) (n + suc d) (omega arith) (omega arith) back) [
+        | inl listed ↦ absurd (cc (none, (free.each (n + suc d) (omega arith) (omega arith)).1 listed))
+        | inr before ↦
+            let host : (astray.host + suc d) - 1 ≡ astray.host + d = omega arith in
+            let guest : (n + suc d) - 1 ≡ n + d = omega arith in
+            not_back d (omega arith) (rw (host, guest) at before)
+      ]
+
+  pub IsRun-starts : IsRun (IsAstray specs) n 4294967294 (record { last = last; all = true })
+  IsRun-starts = record {
+    from = omega (arith, stretch.order, free.from, astray.goes.is_id);
+    to = omega arith;
+    each = λ m from below. (
+      λ _.
+          (let far : n + (m - n) ≡ m = omega arith in
+          subst (λ (k : ℕ). IsAstray specs k) far (record {
+            host = astray.host + (m - n);
+            goes = record { is_id = omega arith; becomes = goes (m - n) (omega arith) };
+            not_back = not_back (m - n) (omega arith);
+          })),
+      λ _. refl,
     );
   }
-
-  -- those after one that is astray, up to a start
-  module _ (there : Piece) (stretch : IsStretch specs GuestToHost there) (there_first : there.first ≡ n)
-      (up_to : last ≤ there.last) (starts : List ℕ) (are : AreStarts specs starts)
-      (none : (k : ℕ) → n < k → k ≤ last → ¬ Contains starts k) (every : moved.all ≡ true) where
-    module _ (to : ℕ) (each : is_one_to_one there.becomes ≡ true) (start : Some to ≡ value_in there there.first) where
-      value : (m : ℕ) → n ≤ m → value_in there m ≡ Some (to + (m - n))
-      value m from = search (rules, value-each)
-
-      goes : (m : ℕ) → n ≤ m → m ≤ last → Becomes specs GuestToHost m (Some (to + (m - n)))
-      goes m from below = rw (value m from) at (stretch.becomes m (omega arith) (omega arith))
-
-      not_back : (d : ℕ) → n + d ≤ last → ¬ Becomes specs HostToGuest (to + d) (Some (n + d))
-      not_back zero below back =
-          let astray = moved_astray every n (omega arith) (omega (arith, is_moved.from)) (omega arith) in
-          let host = same_Some _ _ (lookup_one_value specs accepted GuestToHost n _ _ astray.goes.becomes
-          (goes n (omega arith) (omega arith))) in
-          let host' : to + 0 ≡ astray.host = omega (arith, host) in
-          let guest : n + 0 ≡ n = omega arith in
-          astray.not_back (rw (host', guest) at back)
-      not_back (suc d) below back =
-          let fits : to + (there.last - there.first) ≤ 4294967295 =
-          each_fits there.becomes there.first there.last to each start stretch.named stretch.order stretch.within in
-          elim (are (to + suc d) (n + suc d) (omega arith) (omega arith) back) [
-            | inl listed ↦ none (n + suc d) (omega arith) below listed
-            | inr before ↦
-                let host : (to + suc d) - 1 ≡ to + d = omega arith in
-                let guest : (n + suc d) - 1 ≡ n + d = omega arith in
-                not_back d (omega arith) (rw (host, guest) at before)
-          ]
-
-      is_astray : (m : ℕ) → n ≤ m → m ≤ last → IsAstray specs m
-      is_astray m from below = record {
-        host = to + (m - n);
-        goes = record { is_id = omega arith; becomes = goes m from below };
-        not_back = λ back. not_back (m - n) (omega arith)
-            (subst (λ (k : ℕ). Becomes specs HostToGuest (to + (m - n)) (Some k)) (omega arith) back);
-      }
-
-    pub IsRun-starts : is_one_to_one there.becomes ≡ true
-        → IsRun (IsAstray specs) n 4294967294 (record { last = last; all = true })
-    IsRun-starts each =
-        let (to, start) = start_by there.becomes there.first each in
-        search (rules, is_astray)
 
 -- ---- what is known of two kinds
 

@@ -1,37 +1,35 @@
 -- At which ids of the guest a run of ids that come back may begin.
-use Rattle.std.proofs.Common.{◌≡◌, ◌⊎◌, inl, inr, ℕ, ◌+◌, ◌-◌, ◌<◌, ◌≤◌, true, false, leb, List, [], ◌∷◌, ◌++◌, length}
-use Rattle.std.proofs.Common.{Bool, get_or, Contains, Some, None, refl, sym, ap, ◌∙◌, arith, rules}
-use Rattle.std.specs.List.Sorted.{IsPermutation, IsPartitionPoint, IsNonDecreasing}
+use Rattle.std.proofs.Common.{◌≡◌, ◌⊎◌, ◌↔◌, inl, inr, ℕ, ◌+◌, ◌-◌, ◌<◌, ◌≤◌, true, false, List, [], ◌∷◌, ◌++◌, Bool}
+use Rattle.std.proofs.Common.{Some, None, refl, sym, ap, ◌∙◌, arith, rules}
 use Rattle.std.proofs.lemmas.Bool.{cases_lt, cases_order}
-use Rattle.std.proofs.lemmas.Bool.Decides.{nat_tests}
-use Rattle.std.proofs.lemmas.List.{get_or_default}
-use Rattle.std.proofs.lemmas.List.Elements.{Contains-append_left, Contains-push}
-use Rattle.std.proofs.lemmas.List.Sorted.{Contains-permutation}
 use Rattle.std.proofs.lemmas.Option.{same_Some}
 use Rattle.virtiofs_id_audit.specs.ExtentParts.{AreStarts}
+use Rattle.virtiofs_id_audit.specs.IdAudit.{Hold}
+use Rattle.virtiofs_id_audit.specs.declared.spans.Span.{Span}
 use Rattle.virtiofs_map.specs.Build.{Accepted}
 use Rattle.virtiofs_map.specs.Mapping.{Becomes}
 use Rattle.virtiofs_map.specs.Pieces.{is_one_to_one, value_in, IsPiece, PiecesLeft, GivesPiece}
 use Rattle.virtiofs_map.specs.declared.cmdline.IdMap.{IdMap}
 use Rattle.virtiofs_map.specs.declared.soft_idmap.entry.Direction.TheVariants.{HostToGuest}
 use Rattle.virtiofs_map.specs.declared.soft_idmap.piece.Piece.{Piece}
+use Rattle.virtiofs_id_audit.proofs.HeldLemmas.{push_hold}
 use Rattle.virtiofs_id_audit.proofs.PieceLemmas.{value-each, value-not_each}
 use Rattle.virtiofs_map.proofs.ForCallers.{lookup_one_value}
 
 -- ---- the pieces of the host
 
 -- the id of the guest is a start, or the ids before both do so too
-abbrev pub IsAfterStart : List IdMap → List ℕ → ℕ → ℕ → Type 0
-IsAfterStart specs starts host guest = Contains starts guest ⊎ Becomes specs HostToGuest (host - 1) (Some (guest - 1))
+abbrev pub IsAfterStart : List IdMap → List Span → ℕ → ℕ → Type 0
+IsAfterStart specs starts host guest = Hold starts guest ⊎ Becomes specs HostToGuest (host - 1) (Some (guest - 1))
 
-module _ (specs : List IdMap) (piece : Piece) (starts : List ℕ) (host guest : ℕ) (accepted : Accepted specs)
+module _ (specs : List IdMap) (piece : Piece) (starts : List Span) (host guest : ℕ) (accepted : Accepted specs)
     (is : IsPiece specs HostToGuest piece) (from : piece.first ≤ host) (to : host ≤ piece.last)
     (becomes : Becomes specs HostToGuest host (Some guest)) where
   value : value_in piece host ≡ Some guest
   value = lookup_one_value specs accepted HostToGuest host _ _ (is.becomes host from to) becomes
 
   -- what the first id of the piece becomes is a start
-  pub started : (start : ℕ) → Some start ≡ value_in piece piece.first → Contains starts start
+  pub started : (start : ℕ) → Some start ≡ value_in piece piece.first → Hold starts start
       → IsAfterStart specs starts host guest
   started start start_is listed =
       elim (cases_order piece.first host) [
@@ -39,7 +37,7 @@ module _ (specs : List IdMap) (piece : Piece) (starts : List ℕ) (host guest : 
         | inr (inl later) ↦ by (is_one_to_one piece.becomes) refl later
         | inr (inr beyond) ↦ absurd (omega arith)
       ] where
-        at : start ≡ guest → Contains starts guest
+        at : start ≡ guest → Hold starts guest
         at same = rw (← same) listed
 
         by : (each : Bool) → is_one_to_one piece.becomes ≡ each → piece.first < host
@@ -54,18 +52,18 @@ module _ (specs : List IdMap) (piece : Piece) (starts : List ℕ) (host guest : 
 
 -- ---- the pieces so far
 
-pub record StartsSoFar (specs : List IdMap) (starts : List ℕ) (left : PiecesLeft) : Type 0 where
+pub record StartsSoFar (specs : List IdMap) (starts : List Span) (left : PiecesLeft) : Type 0 where
   pub specs_are : left.specs ≡ specs
   pub direction_is : left.direction ≡ HostToGuest
   pub starts_are : (host guest : ℕ) → 1 ≤ host → host < left.next → Becomes specs HostToGuest host (Some guest)
       → IsAfterStart specs starts host guest
 
-module _ (specs : List IdMap) (starts : List ℕ) (left after : PiecesLeft) (piece : Piece) (accepted : Accepted specs)
+module _ (specs : List IdMap) (starts : List Span) (left after : PiecesLeft) (piece : Piece) (accepted : Accepted specs)
     (so_far : StartsSoFar specs starts left) (gives : GivesPiece left (Some piece) after) where
   is_piece : IsPiece specs HostToGuest piece
   is_piece = rw (so_far.specs_are, so_far.direction_is) at gives.0
 
-  with_more : (more : List ℕ) → ((guest : ℕ) → Contains starts guest → Contains more guest)
+  with_more : (more : List Span) → ((guest : ℕ) → Hold starts guest → Hold more guest)
       → ((host guest : ℕ) → piece.first ≤ host → host ≤ piece.last → Becomes specs HostToGuest host (Some guest)
       → IsAfterStart specs more host guest) → StartsSoFar specs more after
   with_more more wider here = rw gives.2 (record {
@@ -82,36 +80,18 @@ module _ (specs : List IdMap) (starts : List ℕ) (left after : PiecesLeft) (pie
         ]);
   })
 
-  pub StartsSoFar-push : (start : ℕ) → Some start ≡ value_in piece piece.first
-      → StartsSoFar specs (starts ++ start ∷ []) after
-  StartsSoFar-push start start_is = search (rules, with_more, Contains-append_left, started, is_piece, Contains-push)
+  pub StartsSoFar-push : (span : Span) → Some span.first ≡ value_in piece piece.first → span.first ≤ span.last
+      → StartsSoFar specs (starts ++ span ∷ []) after
+  StartsSoFar-push span start_is order =
+      with_more (starts ++ span ∷ []) (λ guest held. push_hold starts span guest (inl held))
+      (λ host guest from to becomes. started specs piece (starts ++ span ∷ []) host guest accepted is_piece from to
+      becomes span.first start_is (push_hold starts span span.first (inr (omega arith, order))))
 
-pub AreStarts-sorted : (specs : List IdMap) (starts sorted : List ℕ) (left after : PiecesLeft)
-    → StartsSoFar specs starts left → GivesPiece left None after → IsPermutation starts sorted
-    → AreStarts specs sorted
-AreStarts-sorted specs starts sorted left after so_far gives permutation host guest some within becomes =
+pub AreStarts-merged : (specs : List IdMap) (starts merged : List Span) (left after : PiecesLeft)
+    → StartsSoFar specs starts left → GivesPiece left None after → ((id : ℕ) → Hold merged id ↔ Hold starts id)
+    → AreStarts specs merged
+AreStarts-merged specs starts merged left after so_far gives same host guest some within becomes =
     elim (so_far.starts_are host guest some (omega arith) becomes) [
-      | inl listed ↦ inl (Contains-permutation starts sorted guest permutation listed)
+      | inl held ↦ inl ((same guest).1 held)
       | inr both ↦ inr both
     ]
-
--- ---- the next start
-
-module _ (starts : List ℕ) (n at : ℕ) (up : IsNonDecreasing starts)
-    (splits : IsPartitionPoint (λ (start : ℕ). leb start n ≡ true) (λ (start : ℕ). leb start n ≡ false) starts at) where
-  -- a start above the number stands at that place or after it
-  later : (start : ℕ) → n < start → Contains starts start → (at < length starts) × (get_or starts at 0 ≤ start)
-  later start above (k, inside, here) =
-      let here' : get_or starts k 0 ≡ start = get_or_default starts k 0 start inside ∙ here in
-      search (rules, cases_lt, nat_tests)
-
-  pub none_left : length starts ≤ at → (start : ℕ) → n < start → ¬ Contains starts start
-  none_left out start above listed = omega (arith, later start above listed)
-
-  pub none_between : (next : ℕ) → get_or starts at next ≡ next → at < length starts → (start : ℕ) → n < start
-      → start < next → ¬ Contains starts start
-  none_between next here inside start above below listed =
-      omega (arith, later start above listed, get_or_default starts at 0 next inside ∙ here)
-
-  pub next_above : (next : ℕ) → get_or starts at next ≡ next → at < length starts → n < next
-  next_above next here inside = search (rules, nat_tests)

@@ -1,8 +1,9 @@
-use Rattle.std.proofs.Common.{rules}
-use Rattle.std.proofs.lemmas.List.Sorted.{All-permutation, IsNonDecreasingBy-from_sort_by_key}
-use Rattle.virtiofs_id_audit.specs.IdAuditParts.{IsSpan}
+use Rattle.std.proofs.Common.{rules, arith}
+use Rattle.std.proofs.lemmas.List.{take_all}
+use Rattle.std.proofs.lemmas.List.Sorted.{All-permutation, IsNonDecreasingBy-from_sort_by_key, sum_by-IsPermutation}
+use Rattle.virtiofs_id_audit.specs.IdAuditParts.{IsSpan, has_times}
 use Rattle.virtiofs_id_audit.specs.declared.spans.Span.{Span}
-use Rattle.virtiofs_id_audit.proofs.images.AgainLemmas.{kept_without, kept_with, kept_sorted}
+use Rattle.virtiofs_id_audit.proofs.images.AgainLemmas.{kept_without, kept_with}
 use Rattle.virtiofs_id_audit.proofs.images.in_order.Goals as goal
 
 pub loop-span-preserved-then-span : goal.loop-span-preserved-then-span
@@ -24,6 +25,7 @@ returns-clause-firsts g c =
     IsNonDecreasingBy-from_sort_by_key (λ (span : Span). span.first) _ c.sort_unstable_by_key.ensures.sorted
     (λ a r q k. search rules)
 
-pub returns-clause-hold : goal.returns-clause-hold
-returns-clause-hold g c =
-    kept_sorted _ _ _ _ c.loop-span-test.false c.loop-span.invariant c.sort_unstable_by_key.ensures.permutation
+pub returns-clause-times : goal.returns-clause-times
+returns-clause-times g c = λ id.
+    rw (← take_all c.loop-span.span-index c.args.spans.now c.loop-span-test.false, ← c.loop-span.invariant.same id)
+    (sum_by-IsPermutation (has_times id) c.loop-span.sorted.items _ c.sort_unstable_by_key.ensures.permutation)

@@ -1,5 +1,5 @@
 use Rattle.std.proofs.Common.{rules}
-use Rattle.virtiofs_id_audit.specs.IdAuditParts.{Hold}
+use Rattle.virtiofs_id_audit.specs.IdAudit.{Hold}
 use Rattle.virtiofs_id_audit.proofs.mending.MendsLemmas.{CutSoFar-start, CutSoFar-more, IsMended-cut}
 use Rattle.virtiofs_id_audit.proofs.mending.mended.Goals as goal
 

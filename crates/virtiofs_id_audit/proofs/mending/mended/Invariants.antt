@@ -1,4 +1,4 @@
-use Rattle.virtiofs_id_audit.specs.IdAuditParts.{Hold}
+use Rattle.virtiofs_id_audit.specs.IdAudit.{Hold}
 use Rattle.virtiofs_id_audit.proofs.mending.MendsLemmas.{CutSoFar}
 use Rattle.virtiofs_id_audit.proofs.mending.mended.Given as goal
 

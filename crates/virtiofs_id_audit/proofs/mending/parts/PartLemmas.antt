@@ -3,7 +3,7 @@ use Rattle.std.proofs.Common.{◌≡◌, inl, inr, ℕ, ◌+◌, ◌<◌, List, 
 use Rattle.std.proofs.Common.{IsSomeAnd, IfSome, sym, ap, ◌∙◌, arith, rules}
 use Rattle.std.proofs.lemmas.List.{append_assoc, length-append, get_or_default, get_or-take, length-take, take_more}
 use Rattle.std.proofs.lemmas.List.Elements.{Contains-append_left, Contains-push, Contains-push_cases}
-use Rattle.virtiofs_id_audit.specs.IdAuditParts.{Has, Hold, AreApart}
+use Rattle.virtiofs_id_audit.specs.IdAudit.{Has, Hold, AreRuns}
 use Rattle.virtiofs_id_audit.specs.MendingParts.{IsPart, AreParts, Listed}
 use Rattle.virtiofs_id_audit.specs.declared.spans.Span.{Span}
 use Rattle.virtiofs_map.specs.Build.{HasSource, Accepted}
@@ -13,7 +13,8 @@ use Rattle.virtiofs_map.specs.declared.soft_idmap.entry.Direction.{Direction}
 use Rattle.virtiofs_map.specs.declared.soft_idmap.entry.Direction.TheVariants.{GuestToHost, HostToGuest}
 use Rattle.virtiofs_id_audit.proofs.HeldLemmas.{hold_push, push_hold}
 use Rattle.virtiofs_id_audit.proofs.mending.ListedLemmas.{Accepted-append, Accepted-one, KeepApart, Listed-append}
-use Rattle.virtiofs_id_audit.proofs.mending.ListedLemmas.{Listed-one, covered_maps}
+use Rattle.virtiofs_id_audit.proofs.mending.ListedLemmas.{Listed-one}
+use Rattle.virtiofs_id_audit.proofs.RoundTripLemmas.{covered_maps}
 use Rattle.virtiofs_map.proofs.ForCallers.{Covers-maps}
 
 -- a specification that does not act in a direction maps nothing there
@@ -86,13 +87,13 @@ module _ (spec part : IdMap) (spans : List Span) (span : Span) (parts : List IdM
         Covers-maps part GuestToHost n value ((is.guest n value).1 (maps, has))
 
 -- no earlier span has an id of a later one
-earlier_free : (spans : List Span) (i : ℕ) (d : Span) (n : ℕ) → AreApart spans → i < length spans
+earlier_free : (spans : List Span) (i : ℕ) (d : Span) (n : ℕ) → AreRuns spans → i < length spans
     → Has (get_or spans i d) n → ¬ Hold (take i spans) n
 earlier_free spans i d n are inside has (span, (k, within, here), has') =
     let count = length-take i spans in
     let before : k < i = omega (arith, count, within) in
     let same : get_or spans k span ≡ span = sym (get_or-take i spans k span before) ∙ here in
-    let apart : (get_or spans k span).last < (get_or spans i span).first = are.apart k i span before inside in
+    let apart : (get_or spans k span).last < (get_or spans i span).first = omega (arith, are.gaps k i span before inside) in
     let apart' : span.last < (get_or spans i d).first = rw (same, get_or_default spans i span d inside) at apart in
     omega (arith, has, has')
 
@@ -102,7 +103,7 @@ PartsSoFar spec spans i before out =
     (parts : List IdMap) × (out ≡ before ++ parts) × AreParts spec (take i spans) parts
 
 pub PartsSoFar-more : (spec part : IdMap) (spans : List Span) (i : ℕ) (d : Span) (before out new : List IdMap)
-    → AreApart spans → i < length spans → IfSome (entry_of spec GuestToHost) HasSource
+    → AreRuns spans → i < length spans → IfSome (entry_of spec GuestToHost) HasSource
     → CoversAll spec (get_or spans i d) → IsPart spec (get_or spans i d) part → PartsSoFar spec spans i before out → new ≡ out ++ part ∷ []
     → PartsSoFar spec spans (i + 1) before new
 PartsSoFar-more spec part spans i d before out new are inside source covers is (parts, out_is, so_far) new_is = (

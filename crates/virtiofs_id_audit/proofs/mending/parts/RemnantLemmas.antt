@@ -5,8 +5,7 @@ use Rattle.std.proofs.Common.{arith, rules}
 use Rattle.std.proofs.lemmas.Bool.{cases_lt, false≢true}
 use Rattle.std.proofs.lemmas.List.{get_or_default}
 use Rattle.std.proofs.lemmas.List.Elements.{All-contains, Contains-append_cases, Contains-push_cases}
-use Rattle.virtiofs_id_audit.specs.IdAudit.{AreRuns}
-use Rattle.virtiofs_id_audit.specs.IdAuditParts.{IsSpan, Has, Hold, AreApart}
+use Rattle.virtiofs_id_audit.specs.IdAudit.{Has, Hold, AreRuns}
 use Rattle.virtiofs_id_audit.specs.Mending.{CoversSome, EndsWith}
 use Rattle.virtiofs_id_audit.specs.MendingParts.{AreParts, AreCut, IsRemnant, IsHostHalf, HasNoHostHalf, Listed, Stays}
 use Rattle.virtiofs_id_audit.specs.declared.spans.Span.{Span}
@@ -19,7 +18,8 @@ use Rattle.virtiofs_map.specs.declared.soft_idmap.entry.Entry.{Entry}
 use Rattle.virtiofs_id_audit.proofs.HeldLemmas.{hold_none}
 use Rattle.virtiofs_id_audit.proofs.ApartLemmas.{free_after, held_or_not}
 use Rattle.virtiofs_id_audit.proofs.mending.ListedLemmas.{Accepted-append, Accepted-one, KeepApart, Listed-append}
-use Rattle.virtiofs_id_audit.proofs.mending.ListedLemmas.{Listed-one, covered_maps}
+use Rattle.virtiofs_id_audit.proofs.mending.ListedLemmas.{Listed-one}
+use Rattle.virtiofs_id_audit.proofs.RoundTripLemmas.{covered_maps}
 use Rattle.virtiofs_id_audit.proofs.mending.parts.PartLemmas.{maps_nothing}
 use Rattle.virtiofs_map.proofs.ForCallers.{Covers-maps}
 
@@ -60,10 +60,10 @@ module _ (spec : IdMap) (entry : Entry) (whole : Span) (bad met : List Span) (ac
   -- ---- something is bad
 
   -- some id of theirs is of the whole
-  pub met_covered : whole.first ≤ whole.last → 1 ≤ length met → AreApart met
+  pub met_covered : whole.first ≤ whole.last → 1 ≤ length met → AreRuns met
       → All (λ span. (whole.first ≤ span.last) × (span.first ≤ whole.last)) met
       → ¬ ((n : ℕ) → Covers spec GuestToHost n → ¬ Hold bad n)
-  met_covered order some apart meet clean =
+  met_covered order some runs meet clean =
       let none : Span = record { first = 0; last = 0 } in
       let span : Span = get_or met 0 none in
       let id : ℕ = max whole.first span.first in
@@ -75,14 +75,14 @@ module _ (spec : IdMap) (entry : Entry) (whole : Span) (bad met : List Span) (ac
   -- what is kept of the whole has those that are not bad
   module _ (kept : List Span) (parts : List IdMap)
       (keeps : (id : ℕ) → Hold kept id ↔ (Has whole id × (¬ Hold met id))) where
-    pub kept_inside : AreApart kept
+    pub kept_inside : AreRuns kept
         → All (λ span. IsSomeAnd (entry_of spec GuestToHost) (λ e. EntryCovers e span.first × EntryCovers e span.last)) kept
-    kept_inside apart k d inside =
+    kept_inside runs k d inside =
         let span : Span = get_or kept k d in
-        let is : IsSpan span = apart.some k d inside in
+        let is : span.first ≤ span.last = runs.some k d inside in
         let at = get_or_default kept k span d inside in
-        let low : Has whole span.first = ((keeps span.first).0 (span, (k, inside, at), (omega arith, is.0))).0 in
-        let high : Has whole span.last = ((keeps span.last).0 (span, (k, inside, at), (is.0, omega arith))).0 in
+        let low : Has whole span.first = ((keeps span.first).0 (span, (k, inside, at), (omega arith, is))).0 in
+        let high : Has whole span.last = ((keeps span.last).0 (span, (k, inside, at), (is, omega arith))).0 in
         subst (λ o. IsSomeAnd o (λ e. EntryCovers e span.first × EntryCovers e span.last)) (sym entry_is)
         ((omega arith, omega arith), (omega arith, omega arith))
 

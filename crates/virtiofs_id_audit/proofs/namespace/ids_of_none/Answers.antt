@@ -1,22 +1,29 @@
 use Rattle.std.proofs.Common.{◌≤◌, arith, refl, rules}
 use Rattle.std.proofs.lemmas.Bool.{cases_lt}
-use Rattle.virtiofs_id_audit.proofs.NamespaceLemmas.{lacks_none, lacks_had, lacks_more, lacks_all}
+use Rattle.virtiofs_id_audit.specs.Namespace.{HasSome}
+use Rattle.virtiofs_id_audit.proofs.NamespaceLemmas.{lacks_all}
+use Rattle.virtiofs_id_audit.proofs.SpanLemmas.{HoldBelow-pass, HoldBelow-push}
+use Rattle.virtiofs_id_audit.proofs.namespace.ids_of_none.Goals.{then-run+in_ok-push, else-run}
 use Rattle.virtiofs_id_audit.proofs.namespace.ids_of_none.Goals as goal
-
-pub loop-first-init : goal.loop-first-init
-loop-first-init g c = rw c.new-ids.ensures.items (lacks_none c.args.ranges.now)
-
-pub loop-first-preserved-in-Some : goal.loop-first-preserved-in-Some
-loop-first-preserved-in-Some g c =
-    lacks_had _ _ _ _ c.in-Some.ensures.0 c.in-Some.ensures.2 (rw c.in-Ok.ensures.1 c.loop-first.invariant)
 
 pub loop-first-preserved : goal.loop-first-preserved
 loop-first-preserved g c =
-    rw (c.from-next.ensures, c.in_ok-push.ensures.items)
-    (lacks_more _ _ _ _ _ refl refl (omega (arith, c.last_lacking-last.type_inv)) c.last_lacking-last.ensures.order
-    c.last_lacking-last.ensures.lacks (rw c.in-Ok.ensures.1 c.loop-first.invariant))
+    let is = c.run_of_none-run.ensures in (
+      omega (arith, is.to),
+      elim c.if-run.branch [
+        | then-run+in_ok-push w ↦
+            rw (w.ids-is, w.in_ok-push.ensures.items, c.from-next.ensures)
+            (HoldBelow-push (λ n. ¬ HasSome c.args.ranges.now n) _ _ _ is _ _ w.if-run.true refl refl
+            (rw c.in-Ok.ensures.1 c.loop-first.invariant.1))
+        | else-run w ↦
+            rw (w.ids-is, c.from-next.ensures)
+            (HoldBelow-pass (λ n. ¬ HasSome c.args.ranges.now n) _ _ _ is _ w.if-run.false
+            (rw c.in-Ok.ensures.1 c.loop-first.invariant.1))
+      ],
+    )
 
 pub returns : goal.returns
 returns g c =
     let passed : 4294967296 ≤ c.loop-first.next = search (rules, cases_lt) in
-    lacks_all c.args.ranges.now c.loop-first.next _ (omega (arith, passed)) c.loop-first.invariant
+    lacks_all c.args.ranges.now c.loop-first.next _ c.loop-first.invariant.0 (omega (arith, passed))
+    c.loop-first.invariant.1

@@ -1,13 +1,17 @@
-use Rattle.std.proofs.Common.{refl}
+use Rattle.std.proofs.Common.{inl, inr, refl}
+use Rattle.virtiofs_id_audit.proofs.NamespaceLemmas.{lacks_both}
 use Rattle.virtiofs_id_audit.proofs.OutsideLemmas.{none_here, some_here}
-use Rattle.virtiofs_id_audit.proofs.NamespaceLemmas.{lacks_no_id, lacks_both}
+use Rattle.virtiofs_id_audit.proofs.namespace.lacking_ids.Goals.{then-is_empty, else-is_empty+in_ok-ids}
 use Rattle.virtiofs_id_audit.proofs.namespace.lacking_ids.Goals as goal
-
-pub returns-then-is_empty : goal.returns-then-is_empty
-returns-then-is_empty g c =
-    lacks_no_id _ _ _ (none_here _ _ c.is_empty.ensures c.if-is_empty.true) refl refl c.one_span.ensures
 
 pub returns : goal.returns
 returns g c =
-    lacks_both _ _ _ _ (some_here _ _ c.is_empty.ensures c.if-is_empty.false) refl refl c.in_ok-ids.ensures
-    c.in_ok-push.ensures.items
+    rw c.in_ok-push.ensures.items
+    (elim c.if-is_empty.branch [
+      | then-is_empty w ↦ rw w.ids-is
+          (lacks_both _ _ _ refl refl
+          (inl (none_here _ _ c.is_empty.ensures w.if-is_empty.true, w.new-ids.ensures.items)))
+      | else-is_empty+in_ok-ids w ↦ rw w.ids-is
+          (lacks_both _ _ _ refl refl
+          (inr (some_here _ _ c.is_empty.ensures w.if-is_empty.false, w.in_ok-ids.ensures)))
+    ])

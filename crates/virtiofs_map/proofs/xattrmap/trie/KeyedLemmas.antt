@@ -11,8 +11,9 @@ use Rattle.std.proofs.lemmas.List.{drop-take}
 use Rattle.std.proofs.lemmas.List.Elements.{All-contains}
 use Rattle.std.proofs.lemmas.List.Sorted.{ranks_by, sorted_far}
 use Rattle.std.proofs.lemmas.Option.{slice_get_within, get_or_from_slice_get}
-use Rattle.virtiofs_map.specs.KeyedParts.{AreBytes, IsKeyed, key_of, word_of}
+use Rattle.virtiofs_map.specs.KeyedParts.{AreBytes, key_of, word_of}
 use Rattle.virtiofs_map.specs.NodeParts.{AreInOrder}
+use Rattle.virtiofs_map.specs.TrieBuildParts.{IsReady}
 use Rattle.virtiofs_map.specs.declared.xattrmap.trie.patterns.Pattern.{Pattern}
 use Rattle.virtiofs_map.proofs.xattrmap.trie.PatternLemmas.{less, level, later_byte}
 
@@ -90,17 +91,17 @@ later_key depth xs ys bytes same order =
 
 -- ---- patterns
 
-later_keyed : (depth : ℕ) (one other : Pattern) → IsKeyed one → IsKeyed other
+later_keyed : (most depth : ℕ) (one other : Pattern) → IsReady most one → IsReady most other
     → take depth one.bytes.now ≡ take depth other.bytes.now
     → is_lt (slice_cmp nat_cmp (key_of other) (key_of one)) ≡ false
     → get_or one.bytes.now depth 0 ≤ get_or other.bytes.now depth 0
-later_keyed depth one other numbers numbers' same order = search (rules, is_lt, later_key)
+later_keyed most depth one other numbers numbers' same order = search (rules, is_lt, later_key)
 
 -- patterns in the order of their keys are in the order of their bytes
-pub AreInOrder-keyed : (patterns : List Pattern) → All IsKeyed patterns
+pub AreInOrder-keyed : (most : ℕ) (patterns : List Pattern) → All (IsReady most) patterns
     → IsSortedBy (λ (a b : Pattern). is_lt (slice_cmp nat_cmp (key_of a) (key_of b))) patterns
     → AreInOrder patterns
-AreInOrder-keyed patterns each sorted = record {
+AreInOrder-keyed most patterns each sorted = record {
   rising = λ i j depth one other before here there same.
       let inside : j < length patterns = slice_get_within patterns j other there in
       let within : i < length patterns = slice_get_within patterns i one here in
@@ -111,6 +112,6 @@ AreInOrder-keyed patterns each sorted = record {
       (ranks_by nat_list_cmp_total key_of) patterns sorted i j one (omega arith) inside in
       let order : is_lt (slice_cmp nat_cmp (key_of other) (key_of one)) ≡ false =
       grind (arith, is_lt, nat_cmp) in
-      later_keyed depth one other (All-contains IsKeyed patterns one each (i, within, is_one))
+      later_keyed most depth one other (All-contains (IsReady most) patterns one each (i, within, is_one))
       (grind (arith, All-contains, get_or_from_slice_get)) same order;
 }

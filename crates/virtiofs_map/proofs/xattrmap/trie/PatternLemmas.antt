@@ -1,6 +1,6 @@
 -- The patterns of a side, gathered rule by rule, and in any order.
 use Rattle.std.proofs.Common.{◌≡◌, ◌≢◌, ℕ, zero, suc, ◌+◌, ◌*◌, ◌<◌, ◌≤◌, true, false, List, [], ◌∷◌, ◌++◌, length}
-use Rattle.std.proofs.Common.{append-nil, cond, filter, map, take, get_or, Some, inl, inr, sym, ap, subst, ◌∙◌, eq-eqb, arith, All, Contains}
+use Rattle.std.proofs.Common.{append-nil, cond, filter, map, take, get_or, Some, inl, inr, sym, ap, subst, ◌∙◌, eq-eqb, arith, All}
 use Rattle.std.proofs.Common.{slice_get, IsPermutation, nat_cmp, is_lt, true≢false, lt-ltb, rules}
 use Rattle.std.specs.Cmp.Lexicographic.{slice_cmp}
 use Rattle.std.specs.Ordering.{ordering_then}
@@ -12,13 +12,18 @@ use Rattle.std.proofs.lemmas.List.Sorted.{IsPermutation-trans}
 use Rattle.std.proofs.lemmas.List.Elements.{All-contains, All-push, Contains-append_left, Contains-push, filter-append}
 use Rattle.std.proofs.lemmas.List.{map-append, take_all, take_more}
 use Rattle.std.proofs.lemmas.Option.{same_Some, slice_get_cases, slice_get_past, slice_get_within, get_or_from_slice_get}
-use Rattle.virtiofs_map.specs.NodeParts.{IsPatternAt, ArePatterns, ArePatternsBelow, AreInOrder, patterns_on}
+use Rattle.virtiofs_map.specs.NodeParts.{IsPatternAt, ArePatterns, ArePatternsBelow, patterns_on}
 use Rattle.virtiofs_map.specs.FirstRule.{acts, pattern}
-use Rattle.virtiofs_map.specs.TrieBuildParts.{AreReady}
 use Rattle.virtiofs_map.specs.Rule.{HasNoZero, MappingRule, type_number}
 use Rattle.virtiofs_map.specs.declared.xattrmap.trie.patterns.Pattern.{Pattern}
 use Rattle.virtiofs_map.specs.declared.xattrmap.scopes.Side.{Side}
 use Rattle.virtiofs_map.proofs.xattrmap.PathLemmas.{pattern_no_zero}
+
+-- the pattern of a rule has no zero where the rules have none
+pub no_zero_at : (side : Side) (rules : List MappingRule) (place : ℕ) (rule : MappingRule)
+    → slice_get rules place ≡ Some rule → All HasNoZero rules → All (λ byte. byte ≢ 0) (pattern side rule)
+no_zero_at side rules place rule here plain =
+    pattern_no_zero side rule (All-contains HasNoZero rules rule plain (search (slice_get_within, get_or_from_slice_get)))
 
 -- what names are compared with, with one rule more
 texts_more : (side : Side) (rules : List MappingRule) (place : ℕ) (rule : MappingRule)
@@ -119,19 +124,3 @@ later_byte (x ∷ one) [] zero same order = absurd (true≢false order)
 later_byte (x ∷ one) [] (suc depth) same order = absurd (cc)
 later_byte (x ∷ one) (y ∷ other) zero same order = grind arith
 later_byte (x ∷ one) (y ∷ other) (suc depth) same order = grind (arith, later_byte one other depth)
-
--- ---- patterns of which a trie can be made
-
-pub AreReady-made : (side : Side) (rules : List MappingRule) (bytes : List ℕ) (patterns : List Pattern)
-    → ArePatterns side rules bytes patterns → All HasNoZero rules → AreInOrder patterns
-    → AreReady (length bytes) patterns
-AreReady-made side rules bytes patterns are plain order = record {
-  each = λ k d below.
-      let of_rule = are.each k d below in
-      let is = of_rule.is in
-      let stored : Contains rules is.rule = (search (slice_get_within, get_or_from_slice_get)) in
-      let none : All (λ byte. byte ≢ 0) (pattern side is.rule) =
-      pattern_no_zero side is.rule (All-contains HasNoZero rules is.rule plain stored) in
-      record { within = is.within; full = subst (λ (s : List ℕ). All (λ byte. byte ≢ 0) s) (sym is.are) none; small = is.small };
-  order = order;
-}

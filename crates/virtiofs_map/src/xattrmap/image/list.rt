@@ -7,8 +7,7 @@ ghost use Rattle.virtiofs_map.specs.NamesImageParts.{Holds};
 ghost use Rattle.virtiofs_map.specs.Rule.{MappingRule};
 
 use crate::xattrmap::XattrMapRef;
-use crate::xattrmap::image::ListWritten;
-use crate::xattrmap::image::fill::put;
+use crate::xattrmap::image::{ListWritten, put};
 use crate::xattrmap::listed::Seen;
 
 /// Writes a name and a zero at a place, where there is room for them, and gives the place behind.
@@ -45,7 +44,6 @@ pub fn write_list(image: &[u8], list: &[u8], out: &mut [u8]) -> ListWritten
         let (seen, left) = map.first_seen(rest);
         rest = left;
         match seen {
-            Seen::NoMap => return ListWritten::NoMap,
             Seen::Undecided => return ListWritten::Undecided,
             Seen::Hidden => {}
             Seen::Listed(shown) => end = put_name(out, end, shown),

@@ -1,57 +1,65 @@
 //! Rules as rows of bytes, as they are read.
 
 ghost use Rattle.std.specs.Option.{option_map};
-ghost use Rattle.std.specs.Prelude.{◌≡◌, ◌<◌, List, Some, length, slice_get};
-ghost use Rattle.virtiofs_map.specs.NodeParts.{IsSpan};
-ghost use Rattle.virtiofs_map.specs.NamesImage.{AreRuleRows, IsImage, rule_row};
+ghost use Rattle.std.specs.Prelude.{◌≡◌, ◌/◌, ◌<◌, ◌≤◌, IfNone, IfSome, List, Some, length, slice_get};
+ghost use Rattle.virtiofs_map.specs.NamesImage.{AreRuleRows, IsImage, row_at, span_of};
 ghost use Rattle.virtiofs_map.specs.Rule.{MappingRule};
 ghost use Rattle.virtiofs_map.specs.RuleParts.{rule_meant};
-ghost use Rattle.virtiofs_map.specs.declared.xattrmap.spans.Span.{Span};
 
 use crate::xattrmap::image::header::{HEADER, part_start};
 use crate::xattrmap::le_u64::le_u64_at;
 use crate::xattrmap::rules::{RuleKind, RuleRef};
 use crate::xattrmap::scopes::Scope;
+use crate::xattrmap::spans::Span;
 use crate::xattrmap::trie::ROW;
 use bitflags::Flags;
 
 /// Where two numbers share eight bytes, the second is multiplied by this.
 pub(crate) const SHARE: u64 = 281474976710656;
 
-/// The rule at a place; `None` where there is none, or where its patterns are not among the bytes.
-pub(crate) fn read_rule<'a>(rows: &[u8], bytes: &'a [u8], at: usize) -> Option<RuleRef<'a>>
-    ensures { (rules : List MappingRule) → AreRuleRows rules rows.now bytes.now
-        → option_map rule_meant result ≡ slice_get rules at }
+/// The row at a place.
+pub(crate) fn row_at(rows: &[u8], at: usize) -> Option<&[u8]>
+    ensures here { IfSome result (λ row.
+        (at < length rows.now / 24) × (row.now ≡ row_at rows.now at)) }
+    ensures long { IfSome result (λ row. length row.now ≡ 24) }
+    ensures past { IfNone result (length rows.now / 24 ≤ at) }
 {
     if at < rows.len() / ROW {
-        let from = at * ROW;
-        rule_of(&rows[from..from + ROW], bytes)
+        Some(&rows[at * ROW..at * ROW + ROW])
     } else {
         None
     }
 }
 
-/// The rule of a row.
-fn rule_of<'a>(row: &[u8], bytes: &'a [u8]) -> Option<RuleRef<'a>>
+/// Where the patterns of the rule of a row stand.
+pub(crate) fn span_of(row: &[u8]) -> Span
     requires { length row.now ≡ 24 }
-    ensures { (rule : MappingRule) (span : Span) → row.now ≡ rule_row rule span
-        → IsSpan bytes.now rule span → length bytes.now < 281474976710656
-        → option_map rule_meant result ≡ Some rule }
+    ensures { result ≡ span_of row.now }
 {
-    let first = le_u64_at(row, 0);
-    let key = (first % SHARE) as usize;
-    let prepend = le_u64_at(row, 8) as usize;
-    let end = le_u64_at(row, 16) as usize;
-    if key <= prepend && prepend <= end && end <= bytes.len() {
-        Some(RuleRef {
-            kind: RuleKind::numbered(first / SHARE % 4),
-            scope: Scope::from_bits_retain((first / SHARE / 4 % 4) as u8),
-            key: &bytes[key..prepend],
-            prepend: &bytes[prepend..end],
-        })
-    } else {
-        None
+    Span {
+        key: (le_u64_at(row, 0) % SHARE) as usize,
+        prepend: le_u64_at(row, 8) as usize,
+        end: le_u64_at(row, 16) as usize,
     }
+}
+
+/// The rule at a place; `None` where there is none, or where its patterns are not among the bytes.
+pub(crate) fn read_rule<'a>(rows: &[u8], bytes: &'a [u8], at: usize) -> Option<RuleRef<'a>>
+    ensures { (rules : List MappingRule) → AreRuleRows rules rows.now bytes.now
+        → option_map rule_meant result ≡ slice_get rules at }
+{
+    let row = row_at(rows, at)?;
+    let Span { key, prepend, end } = span_of(row);
+    if key > prepend || prepend > end || end > bytes.len() {
+        return None;
+    }
+    let acts = le_u64_at(row, 0) / SHARE;
+    Some(RuleRef {
+        kind: RuleKind::numbered(acts % 4),
+        scope: Scope::from_bits_retain((acts / 4 % 4) as u8),
+        key: &bytes[key..prepend],
+        prepend: &bytes[prepend..end],
+    })
 }
 
 /// The prepend of the rule at a place of an image; `None` where it does not stand among the bytes.

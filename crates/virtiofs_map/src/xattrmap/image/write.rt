@@ -1,17 +1,13 @@
 //! Writes the image of a map of names.
 
 ghost use Rattle.std.specs.Prelude.{◌≡◌, ◌+◌, ◌*◌, ◌<◌, ◌≤◌, ◌++◌, All, IfNone, IfOk, IfSome, OnOk, length};
-ghost use Rattle.virtiofs_map.specs.NamesImage.{acts_number, longest_image, rule_row, rule_rows};
+ghost use Rattle.virtiofs_map.specs.NamesImage.{longest_image};
 ghost use Rattle.virtiofs_map.specs.NamesImageParts.{ArePlaces, IsWholeImage, header_of};
 ghost use Rattle.virtiofs_map.specs.Rule.{HasNoZero};
-ghost use Rattle.virtiofs_map.specs.RuleParts.{rule_meant};
 
 use crate::xattrmap::image::header::{HEADER, KIND};
-use crate::xattrmap::image::stored::SHARE;
 use crate::xattrmap::le_u64::push_le_u64;
-use crate::xattrmap::rules::{RuleRef, Rules};
-use crate::xattrmap::scopes::Side;
-use crate::xattrmap::spans::Span;
+use crate::xattrmap::rules::Rules;
 use crate::xattrmap::trie::{ROW, push_rows, tries_of};
 use std::alloc::{AllocError, Allocator};
 
@@ -68,7 +64,6 @@ pub(crate) fn image_of<A: Allocator + Copy>(
     ensures { IfOk result (λ image. IsWholeImage rules.list image.items) }
 {
     let (client, server) = tries_of(alloc, &rules)?;
-    let patterns = rules.bytes();
     let Some(places) = places_of(client.len(), server.len(), &rules) else {
         return Err(AllocError);
     };
@@ -76,8 +71,8 @@ pub(crate) fn image_of<A: Allocator + Copy>(
     push_header(&mut image, places)?;
     push_rows(&mut image, client.as_slice(), places.bytes)?;
     push_rows(&mut image, server.as_slice(), places.bytes)?;
-    push_rules(&mut image, &rules)?;
-    image.extend_from_slice(patterns)?;
+    image.extend_from_slice(rules.rows())?;
+    image.extend_from_slice(rules.bytes())?;
     push_le_u64(&mut image, KIND)?;
     // The memory that was taken last is freed last: then allocators give all of it back.
     drop(rules);
@@ -94,45 +89,4 @@ fn push_header<A: Allocator>(image: &mut Vec<u8, A>, places: Places) -> Result<(
     push_le_u64(image, places.rules as u64)?;
     push_le_u64(image, places.bytes as u64)?;
     push_le_u64(image, places.end as u64)
-}
-
-/// Appends the rows of rules.
-fn push_rules<A: Allocator>(image: &mut Vec<u8, A>, rules: &Rules<A>) -> Result<(), AllocError>
-    requires short { length rules.now.bytes < 281474976710656 }
-    requires counted { length rules.now.spans ≡ length rules.now.list }
-    ensures { OnOk result (image.new.items
-        ≡ image.old.items ++ rule_rows rules.now.list rules.now.spans) }
-{
-    for place in 0..rules.len() {
-        let (Some(rule), Some(span)) = (rules.get(place), rules.span(place)) else {
-            return Ok(());
-        };
-        push_rule(image, rule, span)?;
-    }
-    Ok(())
-}
-
-/// What a rule does and on which sides, as a number.
-fn acts_number(rule: RuleRef<'_>) -> u64
-    ensures { result ≡ acts_number (rule_meant rule.entry) }
-{
-    let client = if rule.scope.has(Side::Client) { 4 } else { 0 };
-    let server = if rule.scope.has(Side::Server) { 8 } else { 0 };
-    rule.kind.number() + client + server
-}
-
-/// Appends the row of a rule.
-#[tactic(auto, using(crate::proofs::RuleRowLemmas::three_written))]
-fn push_rule<A: Allocator>(
-    image: &mut Vec<u8, A>,
-    rule: RuleRef<'_>,
-    span: Span,
-) -> Result<(), AllocError>
-    requires { span.key < 281474976710656 }
-    ensures { OnOk result (image.new.items
-        ≡ image.old.items ++ rule_row (rule_meant rule.entry) span) }
-{
-    push_le_u64(image, span.key as u64 + SHARE * acts_number(rule))?;
-    push_le_u64(image, span.prepend as u64)?;
-    push_le_u64(image, span.end as u64)
 }

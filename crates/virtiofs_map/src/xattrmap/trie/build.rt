@@ -2,9 +2,9 @@
 
 ghost use Rattle.std.specs.Prelude.{◌≡◌, ◌≢◌, ◌<◌, ◌≤◌, ◌+◌, ◌-◌, ℕ, List, take, length, slice_get, slice_index, All, Some, IfOk, OnOk};
 ghost use Rattle.virtiofs_map.specs.NodeParts.{AreFew, ArePatterns, AreTrieRows};
-ghost use Rattle.virtiofs_map.specs.TrieBuildParts.{text, number, start_of, AreReady, IsLeast, IsLeastOf, IsUpto, IsPatternRange};
-ghost use Rattle.virtiofs_map.specs.TrieBuildParts.{AreRangesOrHoles, IsRangeOrHole, AreAdded, Adds, AreHoles, IsExpanded};
-ghost use Rattle.virtiofs_map.specs.TrieBuildParts.{below, childless_of, next_of, path_of_range, texts_of};
+ghost use Rattle.virtiofs_map.specs.TrieBuildParts.{text, number, start_of, AreReady, IsLeast, IsUpto, IsPatternRange};
+ghost use Rattle.virtiofs_map.specs.TrieBuildParts.{AreAdded, GoOnFrom, IsExpanded, IsRangeOrHole};
+ghost use Rattle.virtiofs_map.specs.TrieBuildParts.{next_of, path_of_range, texts_of};
 ghost use Rattle.virtiofs_map.specs.PatternTrie.{are_sparse, next_bytes};
 ghost use Rattle.virtiofs_map.specs.Rule.{MappingRule};
 ghost use Rattle.virtiofs_map.specs.declared.xattrmap.scopes.Side.{Side};
@@ -32,6 +32,16 @@ pub(crate) struct PatternRange {
     /// The byte that leads to the node.
     first_byte: u8,
 }
+
+/// An unused place between children, for a byte that leads nowhere.
+const HOLE: PatternRange = PatternRange {
+    low: 0,
+    high: 0,
+    depth: 1,
+    answer: NO_ANSWER,
+    length: 0,
+    first_byte: 0,
+};
 
 /// The bytes of a pattern.
 #[tactic(auto, using(crate::proofs::xattrmap::trie::build::PatternTextLemmas::text_read))]
@@ -131,15 +141,13 @@ fn group_end(patterns: &[Pattern<'_>], low: usize, high: usize, depth: usize) ->
 /// The place of the first pattern of a range that is longer than the range's path; and the least
 /// answer of the patterns that end within the path.
 fn ended(patterns: &[Pattern<'_>], range: PatternRange) -> (usize, u64)
-    requires within { range.high ≤ length patterns.now }
-    requires rising { range.low ≤ range.high }
-    ensures from { range.low ≤ result.0 }
+    requires ready { AreReady usize.MAX patterns.now }
+    requires range { IsPatternRange patterns.now range }
     ensures upto { result.0 ≤ range.high }
     ensures ended { (i : ℕ) → range.low ≤ i → i < result.0
         → length (text patterns.now i) ≡ range.depth }
-    ensures other { result.0 < range.high
-        → length (text patterns.now result.0) ≢ range.depth }
-    ensures least { IsLeastOf patterns.now range.answer range.low result.0 result.1 }
+    ensures on { result.0 < range.high → GoOnFrom patterns.now range result.0 }
+    ensures least { IsLeast patterns.now (IsUpto patterns.now range) result.1 }
 {
     let mut answer = range.answer;
     for at in range.low..range.high {
@@ -200,11 +208,7 @@ fn child(
 fn are_children_sparse(patterns: &[Pattern<'_>], range: PatternRange, from: usize) -> bool
     requires ready { AreReady usize.MAX patterns.now }
     requires range { IsPatternRange patterns.now range }
-    requires from { range.low ≤ from }
-    requires some { from < range.high }
-    requires ended { (i : ℕ) → range.low ≤ i → i < from
-        → length (text patterns.now i) ≡ range.depth }
-    requires longer { range.depth < length (text patterns.now from) }
+    requires on { GoOnFrom patterns.now range from }
     ensures { result
         ≡ are_sparse (next_bytes (texts_of patterns.now) (path_of_range patterns.now range)) }
 {
@@ -220,35 +224,9 @@ fn are_children_sparse(patterns: &[Pattern<'_>], range: PatternRange, from: usiz
     span > 2 * count + 4
 }
 
-/// Appends holes until there are `count` places from `base` on.
-#[tactic(auto, using(crate::proofs::xattrmap::trie::build::AppendedRangeLemmas::holes_more))]
-fn add_holes<A: Allocator>(
-    ranges: &mut Vec<PatternRange, A>,
-    base: usize,
-    count: usize,
-    depth: usize,
-) -> Result<(), AllocError>
-    requires base { base ≤ length ranges.old.items }
-    requires room { length ranges.old.items ≤ base + count }
-    ensures holes { OnOk result (AreHoles ranges.old.items ranges.new.items depth) }
-    ensures count { OnOk result (length ranges.new.items ≡ base + count) }
-{
-    while ranges.len() - base < count {
-        ranges.push(PatternRange {
-            low: 0,
-            high: 0,
-            depth,
-            answer: NO_ANSWER,
-            length: 0,
-            first_byte: 0,
-        })?;
-    }
-    Ok(())
-}
-
 /// Appends the children of a range: one for each byte with which its patterns from a place on go
 /// on.
-#[tactic(auto, using(crate::proofs::xattrmap::trie::build::ChildrenLemmas::row))]
+#[tactic(auto, using(crate::proofs::xattrmap::trie::build::RangePathLemmas::row))]
 fn add_children<A: Allocator>(
     patterns: &[Pattern<'_>],
     ranges: &mut Vec<PatternRange, A>,
@@ -259,20 +237,12 @@ fn add_children<A: Allocator>(
 ) -> Result<(), AllocError>
     requires ready { AreReady usize.MAX patterns.now }
     requires range { IsPatternRange patterns.now range }
-    requires from { range.low ≤ from }
-    requires some { from < range.high }
-    requires ended { (i : ℕ) → range.low ≤ i → i < from
-        → length (text patterns.now i) ≡ range.depth }
-    requires longer { range.depth < length (text patterns.now from) }
+    requires on { GoOnFrom patterns.now range from }
     requires least { IsLeast patterns.now (IsUpto patterns.now range) answer }
     requires sparse { is_sparse
         ≡ are_sparse (next_bytes (texts_of patterns.now) (path_of_range patterns.now range)) }
-    ensures added { OnOk result (AreAdded patterns.now ranges.old.items ranges.new.items range
-        (next_of patterns.now range from) is_sparse range.high) }
-    ensures few { OnOk result (next_of patterns.now range from + length ranges.new.items
-        ≤ 256 + length ranges.old.items) }
-    ensures counted { OnOk result
-        (Adds patterns.now ranges.old.items ranges.new.items (below patterns.now range)) }
+    ensures { OnOk result (AreAdded patterns.now ranges.old.items ranges.new.items range
+        (next_of patterns.now range from) is_sparse) }
 {
     let base = ranges.len();
     let lowest = byte_of(patterns, from, range.depth);
@@ -280,29 +250,13 @@ fn add_children<A: Allocator>(
     while low < range.high {
         if !is_sparse {
             let gap = byte_of(patterns, low, range.depth) - lowest;
-            add_holes(ranges, base, usize::from(gap), range.depth + 1)?;
+            ranges.resize(base + usize::from(gap), HOLE)?;
         }
         let high = group_end(patterns, low, range.high, range.depth);
         ranges.push(child(patterns, range.depth, low, high, answer))?;
         low = high;
     }
     Ok(())
-}
-
-/// The node of a range that has no child.
-fn childless(range: PatternRange, base: usize, answer: u64, label: usize) -> Node
-    ensures { result ≡ childless_of range base answer label }
-{
-    Node {
-        answer,
-        label,
-        length: range.length,
-        base,
-        width: 0,
-        low_byte: 1,
-        first_byte: range.first_byte,
-        is_sparse: false,
-    }
 }
 
 /// The node of a range, whose children are appended to the ranges.
@@ -313,28 +267,39 @@ fn node_of<A: Allocator>(
     range: PatternRange,
 ) -> Result<Node, AllocError>
     requires ready { AreReady usize.MAX patterns.now }
-    requires places { AreRangesOrHoles patterns.now ranges.old.items }
     requires place { IsRangeOrHole patterns.now range }
-    ensures expanded { IfOk result
-        (IsExpanded patterns.now ranges.old.items ranges.new.items range) }
-    ensures counted { OnOk result
-        (Adds patterns.now ranges.old.items ranges.new.items (below patterns.now range)) }
+    ensures { IfOk result (IsExpanded patterns.now ranges.old.items ranges.new.items range) }
 {
     let base = ranges.len();
+    let bare = Node {
+        answer: range.answer,
+        label: 0,
+        length: range.length,
+        base,
+        width: 0,
+        low_byte: 1,
+        first_byte: range.first_byte,
+        is_sparse: false,
+    };
     if range.low == range.high {
-        return Ok(childless(range, base, range.answer, 0));
+        return Ok(bare);
     }
     let (from, answer) = ended(patterns, range);
     let label = start_at(patterns, range.low) + (range.depth - range.length as usize);
-    let bare = childless(range, base, answer, label);
     if from == range.high {
-        return Ok(bare);
+        return Ok(Node {
+            answer,
+            label,
+            ..bare
+        });
     }
     let low_byte = byte_of(patterns, from, range.depth);
     let is_sparse = are_children_sparse(patterns, range, from);
     add_children(patterns, ranges, range, from, answer, is_sparse)?;
     let width = ranges.len() - base;
     Ok(Node {
+        answer,
+        label,
         width,
         low_byte,
         is_sparse,

@@ -1,10 +1,10 @@
 //! The patterns of a side, in the order of their bytes.
 
-ghost use Rattle.std.specs.Prelude.{◌≡◌, false, slice_get, All, IfNone, IfSome, OnOk, Some};
-ghost use Rattle.virtiofs_map.specs.KeyedParts.{IsKeyed};
-ghost use Rattle.virtiofs_map.specs.NodeParts.{AreFew, AreInOrder, ArePatterns, IsPatternAt};
+ghost use Rattle.std.specs.Prelude.{◌≡◌, false, length, slice_get, All, IfNone, IfSome, OnOk, Some};
+ghost use Rattle.virtiofs_map.specs.NodeParts.{AreFew, ArePatterns, IsPatternAt};
 ghost use Rattle.virtiofs_map.specs.FirstRule.{acts};
-ghost use Rattle.virtiofs_map.specs.Rule.{MappingRule};
+ghost use Rattle.virtiofs_map.specs.Rule.{HasNoZero, MappingRule};
+ghost use Rattle.virtiofs_map.specs.TrieBuildParts.{AreReady, IsReady};
 
 use crate::xattrmap::rules::Rules;
 use crate::xattrmap::scopes::Side;
@@ -28,9 +28,10 @@ pub(crate) struct Pattern<'a> {
 
 /// The pattern of the rule at a place; `None` where that rule does not act on the side.
 fn pattern_at<A: Allocator>(rules: &Rules<A>, place: usize, side: Side) -> Option<Pattern<'_>>
-    requires { AreFew rules.now.list }
+    requires few { AreFew rules.now.list }
+    requires plain { All HasNoZero rules.now.list }
     ensures found { IfSome result (IsPatternAt side rules.now.list rules.now.bytes place) }
-    ensures keyed { IfSome result IsKeyed }
+    ensures ready { IfSome result (IsReady (length rules.now.bytes)) }
     ensures none { IfNone result ((rule : MappingRule)
         → slice_get rules.now.list place ≡ Some rule → acts side rule ≡ false) }
 {
@@ -60,10 +61,12 @@ fn fill_as_written<'r, A: Allocator>(
     rules: &'r Rules<A>,
     side: Side,
 ) -> Result<(), AllocError>
-    requires { AreFew rules.now.list }
+    requires few { AreFew rules.now.list }
+    requires plain { All HasNoZero rules.now.list }
     ensures patterns { OnOk result
         (ArePatterns side rules.now.list rules.now.bytes patterns.new.items) }
-    ensures keyed { OnOk result (All IsKeyed patterns.new.items) }
+    ensures ready { OnOk result
+        (All (IsReady (length rules.now.bytes)) patterns.new.items) }
 {
     patterns.clear();
     for place in 0..rules.len() {
@@ -81,10 +84,11 @@ pub(crate) fn fill_patterns<'r, A: Allocator>(
     rules: &'r Rules<A>,
     side: Side,
 ) -> Result<(), AllocError>
-    requires { AreFew rules.now.list }
+    requires few { AreFew rules.now.list }
+    requires plain { All HasNoZero rules.now.list }
     ensures patterns { OnOk result
         (ArePatterns side rules.now.list rules.now.bytes patterns.new.items) }
-    ensures order { OnOk result (AreInOrder patterns.new.items) }
+    ensures ready { OnOk result (AreReady (length rules.now.bytes) patterns.new.items) }
 {
     fill_as_written(patterns, rules, side)?;
     patterns.sort_unstable_by(|one, other| one.order(other));

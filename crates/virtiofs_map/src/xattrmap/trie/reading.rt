@@ -3,7 +3,7 @@
 ghost use Rattle.std.specs.Prelude.{◌≡◌, ◌↔◌, ◌≤◌, ◌<◌, ◌+◌, ◌*◌, false, ℕ, List, length, take, drop, IfSome, IsTrue};
 ghost use Rattle.std.specs.Prelude.{MatchOption};
 ghost use Rattle.virtiofs_map.specs.NodeParts.{HasBytesAt, HasRows, IsReadable, IsRootRow, IsRow, LeadsNowhere};
-ghost use Rattle.virtiofs_map.specs.NodeParts.{LeadsToRow, StaysAt, StepsToRow};
+ghost use Rattle.virtiofs_map.specs.NodeParts.{LeadsToRow, StaysAt, StepsTo};
 ghost use Rattle.virtiofs_map.specs.FirstRule.{shared};
 ghost use Rattle.virtiofs_map.specs.Steps.{count_after};
 ghost use Rattle.virtiofs_map.specs.declared.xattrmap.trie.node.Node.{Node};
@@ -189,7 +189,7 @@ impl<'a> Rows<'a> {
             → IsReadable nodes bytes node → IsRow first labels node parent.now
             → MatchOption result
             (StaysAt nodes bytes node rest.now whole_count steps.old steps.new)
-            (λ found. StepsToRow first labels nodes bytes node rest.now
+            (λ found. StepsTo first labels nodes bytes node rest.now
             found.0.now found.1.now steps.old steps.new) }
         ensures shorter { IfSome result (λ found. length found.1.now < length rest.now) }
     {

@@ -8,3 +8,7 @@ returns-clause-answer c = λ rules others map other.
     (c.ask.ensures rules others (c.in-Some.ensures.map rules (c.all_of.ensures.map rules map))
     (c.in-Some-of.ensures.map others (c.all_of-2.ensures.map others other)))
     c.tell.ensures
+
+pub returns-in_default-of-clause-answer : goal.returns-in_default-of-clause-answer
+returns-in_default-of-clause-answer c = λ rules others map other.
+    absurd (c.in_default-of.ensures.map others (c.all_of-2.ensures.map others other))

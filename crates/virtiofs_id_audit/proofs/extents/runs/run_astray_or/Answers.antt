@@ -1,5 +1,5 @@
 use Rattle.virtiofs_id_audit.proofs.extents.runs.RunLemmas.{IsRun-known, IsRun-both, beq_is}
-use Rattle.virtiofs_id_audit.specs.IdAuditParts.{Hold}
+use Rattle.virtiofs_id_audit.specs.IdAudit.{Hold}
 use Rattle.virtiofs_id_audit.proofs.extents.runs.run_astray_or.Goals as goal
 
 pub returns-then-astray-bad : goal.returns-then-astray-bad

@@ -1,18 +1,36 @@
-use Rattle.std.proofs.Common.{refl}
+use Rattle.std.proofs.Common.{refl, arith}
+use Rattle.virtiofs_id_audit.specs.ExtentParts.{IsSought}
 use Rattle.virtiofs_id_audit.specs.IdAudit.{Hold}
-use Rattle.virtiofs_id_audit.proofs.ApartLemmas.{AreApart-firsts}
+use Rattle.virtiofs_id_audit.proofs.SpanLemmas.{HoldBelow-pass, HoldBelow-push}
 use Rattle.virtiofs_id_audit.proofs.extents.sought.SoughtLemmas.{all_sought, all_below}
+use Rattle.virtiofs_id_audit.proofs.extents.sought.ids_sought.Goals.{then-run+in_ok-push, else-run}
 use Rattle.virtiofs_id_audit.proofs.extents.sought.ids_sought.Goals as goal
+
+pub run_of-run-requires-clause-starts : goal.run_of-run-requires-clause-starts
+run_of-run-requires-clause-starts g c = rw c.deref.ensures.value c.in_ok-starts.ensures.starts
+
+pub loop-next-preserved : goal.loop-next-preserved
+loop-next-preserved g c =
+    let is = rw c.deref-in-loop-next.ensures.value at c.run_of-run.ensures in
+    elim c.if-run.branch [
+      | then-run+in_ok-push w ↦
+          rw (w.ids-is, w.in_ok-push.ensures.items)
+          (HoldBelow-push (IsSought c.args.sought c.args.map.now (Hold c.in_ok-hosts.hosts.items)) _ _ _ is _ _
+          w.if-run.true refl refl c.loop-next.invariant)
+      | else-run w ↦
+          rw w.ids-is
+          (HoldBelow-pass (IsSought c.args.sought c.args.map.now (Hold c.in_ok-hosts.hosts.items)) _ _ _ is _
+          w.if-run.false c.loop-next.invariant)
+    ]
 
 pub returns-clause-ids : goal.returns-clause-ids
 returns-clause-ids g c =
-    all_sought c.in_ok-others.others.items (record { first = 0; last = 4294967294 }) refl c.args.sought c.args.map.now
-    (Hold c.in_ok-hosts.hosts.items) (Hold c.args.hosts.now) refl c.in_ok-hosts.ensures.hold
-    (rw c.deref.ensures.value at c.in_ok-others.ensures.others) _ (rw c.deref-2.ensures.value at c.without.ensures.hold)
+    all_sought c.args.sought c.args.map.now (Hold c.in_ok-hosts.hosts.items) (Hold c.args.hosts.now) _ _ _
+    c.loop-next-test.false c.in_ok-hosts.ensures.hold c.loop-next.invariant
+    (rw c.deref-2.ensures.value at c.in_ok-merged.ensures.hold)
 
 pub returns-clause-below : goal.returns-clause-below
 returns-clause-below g c =
-    all_below _ _ refl _ (rw c.deref-2.ensures.value at c.without.ensures.hold) c.without.ensures.apart
-
-pub without-requires-clause-firsts : goal.without-requires-clause-firsts
-without-requires-clause-firsts g c = rw c.deref-2.ensures.value (AreApart-firsts _ c.in_ok-others.ensures.apart)
+    all_below c.args.sought c.args.map.now (Hold c.in_ok-hosts.hosts.items) (Hold c.args.hosts.now) _ _ _
+    c.loop-next-test.false c.in_ok-hosts.ensures.hold c.loop-next.invariant
+    (rw c.deref-2.ensures.value at c.in_ok-merged.ensures.hold) c.in_ok-merged.ensures.runs

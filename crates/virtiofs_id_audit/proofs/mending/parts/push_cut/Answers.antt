@@ -1,9 +1,9 @@
 use Rattle.std.proofs.Common.{◌∷◌, ◌++◌, [], ap, sym, ◌∙◌, arith}
 use Rattle.std.proofs.lemmas.Bool.Decides.{nat_tests}
 use Rattle.std.proofs.lemmas.List.{append_assoc, nil_from_length}
-use Rattle.virtiofs_id_audit.specs.IdAuditParts.{Hold}
+use Rattle.virtiofs_id_audit.specs.IdAudit.{Hold}
 use Rattle.virtiofs_map.specs.Mapping.{count_of}
-use Rattle.virtiofs_id_audit.proofs.ApartLemmas.{AreApart-firsts}
+use Rattle.virtiofs_id_audit.proofs.ApartLemmas.{AreRuns-firsts}
 use Rattle.virtiofs_id_audit.proofs.mending.parts.RemnantLemmas.{AreCut-unmet, met_covered, kept_inside, AreCut-parts}
 use Rattle.virtiofs_id_audit.proofs.mending.parts.RemnantLemmas.{AreCut-half, not_empty, parts_remnants, half_covers}
 use Rattle.virtiofs_id_audit.proofs.mending.parts.RemnantLemmas.{with_half, added_remnants}
@@ -25,7 +25,7 @@ push_parts-requires-clause-inside g c =
     rw c.deref.ensures.value
     (kept_inside _ _ _ c.args.bad.now _ c.requires.accepted (sym c.in-Some.ensures) c.first.ensures
     (omega (arith, some, c.end.ensures.end)) c.meeting-bad.ensures.hold _ [] c.in_ok-kept.ensures.hold
-    c.in_ok-kept.ensures.apart)
+    c.in_ok-kept.ensures.runs)
 
 pub returns-in_default-host_half : goal.returns-in_default-host_half
 returns-in_default-host_half g c =
@@ -47,7 +47,7 @@ returns-in_default-host_half g c =
       clean = λ clean. absurd
           (met_covered _ _ _ _ _ c.requires.accepted (sym c.in-Some.ensures) c.first.ensures
           (omega (arith, some, c.end.ensures.end)) c.meeting-bad.ensures.hold (omega arith) (grind (arith, nat_tests))
-          c.meeting-bad.ensures.apart c.meeting-bad.ensures.meet clean);
+          c.meeting-bad.ensures.runs c.meeting-bad.ensures.meet clean);
     }
 
 pub returns : goal.returns
@@ -75,8 +75,8 @@ returns g c =
       clean = λ clean. absurd
           (met_covered _ _ _ _ _ c.requires.accepted (sym c.in-Some.ensures) c.first.ensures
           (omega (arith, some, c.end.ensures.end)) c.meeting-bad.ensures.hold (omega arith) (grind (arith, nat_tests))
-          c.meeting-bad.ensures.apart c.meeting-bad.ensures.meet clean);
+          c.meeting-bad.ensures.runs c.meeting-bad.ensures.meet clean);
     }
 
 pub without-requires-clause-firsts : goal.without-requires-clause-firsts
-without-requires-clause-firsts g c = AreApart-firsts _ c.meeting-bad.ensures.apart
+without-requires-clause-firsts g c = AreRuns-firsts _ c.meeting-bad.ensures.runs

@@ -8,4 +8,4 @@ use Rattle.virtiofs_map.proofs.audit.candidates.try_rests_of.Given as goal
 abbrev pub invariant-loop-place : goal.invariant-loop-place
 invariant-loop-place g l = (rules others : List MappingRule) → IsAskedOf l.question rules others
     → Tries (IsBad l.question rules others) (LedBelow l.patterns l.place
-    (IsAfter l.added)) l.place l.initial.tried l.tried
+    (IsAfter rules l.added)) l.place l.initial.tried l.tried

@@ -10,16 +10,27 @@ use Rattle.virtiofs_map.specs.Rule.{HasNoZero}
 use Rattle.virtiofs_map.specs.RuleParts.{rule_meant}
 use Rattle.virtiofs_map.proofs.AuditAddedLemmas.{none_is}
 use Rattle.virtiofs_map.proofs.RuleRowLemmas.{there}
-use Rattle.virtiofs_map.proofs.audit.AuditGatheredLemmas.{gathered_some, gathered_none, rule_has}
+use Rattle.virtiofs_map.proofs.audit.AuditGatheredLemmas.{bytes_left, bytes_within, gathered_some, gathered_none, rule_has}
 use Rattle.virtiofs_map.proofs.audit.gathered.gathered.Goals as goal
+
+pub loop-place-init : goal.loop-place-init
+loop-place-init g c = λ rules is. (
+  ap (λ (names : List (List ℕ)). names ++ filter_map (part_of c.args.part) rules) c.new-names.ensures.items,
+  bytes_within rules c.args.map.bytes.now is,
+)
 
 pub loop-place-preserved : goal.loop-place-preserved
 loop-place-preserved g c = λ rules is.
     let here = c.in-Some.ensures rules is in
-    gathered_some (part_of c.args.part) rules c.loop-place.place (rule_meant c.in-Some.rule)
-    c.loop-place.names.items _ _ c.in_ok-name.field-0 c.in-Some-2.name here (c.loop-place.invariant rules is)
-    (c.in_ok-name.ensures (rule_has HasNoZero rules c.loop-place.place (rule_meant c.in-Some.rule) is.no_zero here))
-    c.in-Some-2.is c.in_ok-push.ensures.items
+    let so_far = c.loop-place.invariant rules is in
+    let left = bytes_left rules c.loop-place.place (rule_meant c.in-Some.rule) here in (
+      gathered_some (part_of c.args.part) rules c.loop-place.place (rule_meant c.in-Some.rule)
+          c.loop-place.names.items _ _ c.in_ok-name.field-0 c.in-Some-2.name here so_far.0
+          (c.in_ok-name.ensures
+          (rule_has HasNoZero rules c.loop-place.place (rule_meant c.in-Some.rule) is.no_zero here))
+          c.in-Some-2.is c.in_ok-push.ensures.items,
+      omega (arith, so_far.1),
+    )
 
 pub loop-place-preserved-in_default : goal.loop-place-preserved-in_default
 loop-place-preserved-in_default g c = λ rules is.
@@ -27,13 +38,23 @@ loop-place-preserved-in_default g c = λ rules is.
     let none = c.in_default.ensures rules is in
     absurd (cc (here.1, none)))
 
+pub loop-place-preserved-then-count-left : goal.loop-place-preserved-then-count-left
+loop-place-preserved-then-count-left g c = λ rules is.
+    (let left = bytes_left rules c.loop-place.place (rule_meant c.in-Some.rule) (c.in-Some.ensures rules is) in
+    absurd (omega (arith, (c.loop-place.invariant rules is).1)))
+
 pub loop-place-preserved-in_default-2 : goal.loop-place-preserved-in_default-2
 loop-place-preserved-in_default-2 g c = λ rules is.
     let here = c.in-Some.ensures rules is in
-    gathered_none (part_of c.args.part) rules c.loop-place.place (rule_meant c.in-Some.rule)
-    c.loop-place.names.items _ c.in_ok-name.field-0 here (c.loop-place.invariant rules is)
-    (c.in_ok-name.ensures (rule_has HasNoZero rules c.loop-place.place (rule_meant c.in-Some.rule) is.no_zero here))
-    (none_is c.in_ok-name.field-0 c.in_default-2.not-Some)
+    let so_far = c.loop-place.invariant rules is in
+    let left = bytes_left rules c.loop-place.place (rule_meant c.in-Some.rule) here in (
+      gathered_none (part_of c.args.part) rules c.loop-place.place (rule_meant c.in-Some.rule)
+          c.loop-place.names.items _ c.in_ok-name.field-0 here so_far.0
+          (c.in_ok-name.ensures
+          (rule_has HasNoZero rules c.loop-place.place (rule_meant c.in-Some.rule) is.no_zero here))
+          (none_is c.in_ok-name.field-0 c.in_default-2.not-Some),
+      omega (arith, so_far.1),
+    )
 
 pub returns-clause-parts : goal.returns-clause-parts
 returns-clause-parts g c = λ rules is.
@@ -42,7 +63,7 @@ returns-clause-parts g c = λ rules is.
     let behind =
     drop_all c.loop-place.place rules (omega (arith, c.len-place-end.ensures rules is, c.loop-place-test.false)) in
     let whole : names ≡ filter_map f rules = sym (append-nil names) ∙ ap (λ l. names ++ filter_map f l) (sym behind)
-    ∙ c.loop-place.invariant rules is in
+    ∙ (c.loop-place.invariant rules is).0 in
     subst (λ (l : List (List ℕ)). IsPermutation l c.sort_unstable_by.new.self.items) whole
     c.sort_unstable_by.ensures.permutation
 

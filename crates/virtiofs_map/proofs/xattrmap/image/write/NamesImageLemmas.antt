@@ -4,21 +4,20 @@ use Rattle.std.proofs.Common.{drop, refl, ap, sym, subst, ◌∙◌, arith, appe
 use Rattle.std.proofs.Common.{length-drop, length-take-le, flat_map, rules}
 use Rattle.std.proofs.Math.Seq.{drop-append_seam, take-append_seam}
 use Rattle.std.proofs.lemmas.List.Elements.{All-cons, All-nil}
-use Rattle.virtiofs_map.specs.NodeParts.{AreSpans, HasBytes, IsBounded, IsSmallIn, IsTrie, IsTrieIn, IsTrieWith, row_in}
+use Rattle.virtiofs_map.specs.NodeParts.{HasBytes, IsBounded, IsSmallIn, IsTrie, IsTrieIn, IsTrieWith, row_in}
 use Rattle.virtiofs_map.specs.NodeParts.{AreTrieRows}
 use Rattle.virtiofs_map.specs.LeU64Parts.{le_u64_at, le_u64_bytes}
 use Rattle.virtiofs_map.specs.NamesImage.{HasEnd, HasPart, IsImage, image_kind, image_length, part, part_end}
-use Rattle.virtiofs_map.specs.NamesImage.{part_start, longest_image, pattern_bytes, rule_rows}
+use Rattle.virtiofs_map.specs.NamesImage.{part_start, longest_image, pattern_bytes}
 use Rattle.virtiofs_map.specs.NamesImageParts.{ArePlaces, IsWholeImage, header_of, numbers_of}
 use Rattle.virtiofs_map.specs.Rule.{MappingRule, HasNoZero}
+use Rattle.virtiofs_map.specs.RuleParts.{AreKept}
 use Rattle.virtiofs_map.specs.declared.xattrmap.image.write.Places.{Places}
 use Rattle.virtiofs_map.specs.declared.xattrmap.scopes.Side.{Side}
 use Rattle.virtiofs_map.specs.declared.xattrmap.scopes.Side.TheVariants.{Client, Server}
 use Rattle.virtiofs_map.specs.declared.xattrmap.trie.node.Node.{Node}
-use Rattle.virtiofs_map.specs.declared.xattrmap.spans.Span.{Span}
 use Rattle.virtiofs_map.proofs.LeU64Lemmas.{length-le_u64_bytes, length-rows_in, length-words, le_u64_at-front}
 use Rattle.virtiofs_map.proofs.LeU64Lemmas.{le_u64_at-past, word_of_words}
-use Rattle.virtiofs_map.proofs.RuleRowLemmas.{length-rule_rows}
 
 -- ---- parts, as they are written
 
@@ -197,10 +196,9 @@ module _ (side : Side) (rules : List MappingRule) (image : List ℕ) (which firs
         few = of.few;
       }
 
-module _ (rules : List MappingRule) (spans : List Span) (client server : List Node) (bytes : List ℕ) (places : Places)
+module _ (rules : List MappingRule) (client server : List Node) (rows bytes : List ℕ) (places : Places)
     (are : ArePlaces (24 * length client) (24 * length server) (length rules) (length bytes) places)
-    (stand : AreSpans bytes rules spans) (whole : length bytes ≡ pattern_bytes rules)
-    (no_zero : All HasNoZero rules) (clients : IsTrieWith Client rules client bytes)
+    (kept : AreKept rules rows bytes) (no_zero : All HasNoZero rules) (clients : IsTrieWith Client rules client bytes)
     (servers : IsTrieWith Server rules server bytes) (client_bytes : All HasBytes client)
     (server_bytes : All HasBytes server) where
   abbrev pub client_rows : List ℕ
@@ -209,11 +207,8 @@ module _ (rules : List MappingRule) (spans : List Span) (client server : List No
   abbrev pub server_rows : List ℕ
   server_rows = flat_map (row_in (places.server / 8) places.bytes) server
 
-  rows_long : length (rule_rows rules spans) ≡ 24 * length rules
-  rows_long = length-rule_rows rules spans stand.counted
-
   ends_there : places.end + 8 ≡ image_length rules
-  ends_there = omega (arith, parts_length rules client server bytes clients servers whole, are.first, are.second, are.third, are.last)
+  ends_there = omega (arith, parts_length rules client server bytes clients servers kept.whole, are.first, are.second, are.third, are.last)
 
   laid : ArePlaces (length client_rows) (length server_rows) (length rules) (length bytes) places
   laid =
@@ -236,21 +231,20 @@ module _ (rules : List MappingRule) (spans : List Span) (client server : List No
       (omega (arith, are.first, are.second, are.third, are.last, are.short)) (omega (arith, are.last, are.short))
 
   -- it is an image of the map
-  pub content_image : IsImage rules (content places client_rows server_rows (rule_rows rules spans) bytes)
+  pub content_image : IsImage rules (content places client_rows server_rows rows bytes)
   content_image =
-      let rows : List ℕ = rule_rows rules spans in
-      let one = first_part places client_rows server_rows rows bytes (length rules) laid rows_long in
-      let two = second_part places client_rows server_rows rows bytes (length rules) laid rows_long in
-      let three = third_part places client_rows server_rows rows bytes (length rules) laid rows_long in
-      let four = fourth_part places client_rows server_rows rows bytes (length rules) laid rows_long in
-      let size = content_length places client_rows server_rows rows bytes (length rules) laid rows_long in
-      let starts = content_u64 places client_rows server_rows rows bytes (length rules) laid rows_long in
+      let one = first_part places client_rows server_rows rows bytes (length rules) laid kept.stored.long in
+      let two = second_part places client_rows server_rows rows bytes (length rules) laid kept.stored.long in
+      let three = third_part places client_rows server_rows rows bytes (length rules) laid kept.stored.long in
+      let four = fourth_part places client_rows server_rows rows bytes (length rules) laid kept.stored.long in
+      let size = content_length places client_rows server_rows rows bytes (length rules) laid kept.stored.long in
+      let starts = content_u64 places client_rows server_rows rows bytes (length rules) laid kept.stored.long in
       record {
         begun = omega (arith, size, are.first, are.second, are.third, are.last, clients.trie.root);
-        kind = content_kind places client_rows server_rows rows bytes (length rules) laid rows_long;
-        parts = every_part places client_rows server_rows rows bytes (length rules) laid rows_long;
+        kind = content_kind places client_rows server_rows rows bytes (length rules) laid kept.stored.long;
+        parts = every_part places client_rows server_rows rows bytes (length rules) laid kept.stored.long;
         first = starts 1 (omega arith);
-        ended = content_end places client_rows server_rows rows bytes (length rules) laid rows_long;
+        ended = content_end places client_rows server_rows rows bytes (length rules) laid kept.stored.long;
         last = ap (λ (n : ℕ). n + 8) (starts 5 (omega arith)) ∙ ends_there;
         short = omega (arith, ends_there, are.short);
         client =
@@ -259,19 +253,17 @@ module _ (rules : List MappingRule) (spans : List Span) (client server : List No
         server =
             trie_laid Server rules _ 1 (places.server / 8) places.bytes server bytes servers server_fits server_bytes
             (starts 2 (omega arith) ∙ omega (arith, are.first)) (starts 4 (omega arith)) two four;
-        stored =
-            rw (three.is, four.is)
-            record { spans = spans; stand = stand; are = refl; few = omega (arith, are.last, are.short) };
+        stored = rw (three.is, four.is) kept.stored;
         no_zero = no_zero;
       }
 
   -- and nothing follows it
   pub content_whole : IsWholeImage rules
-      (content places client_rows server_rows (rule_rows rules spans) bytes)
+      (content places client_rows server_rows rows bytes)
   content_whole = record {
     image = content_image;
     whole =
-        content_length places client_rows server_rows (rule_rows rules spans) bytes (length rules) laid rows_long
+        content_length places client_rows server_rows rows bytes (length rules) laid kept.stored.long
         ∙ ends_there;
   }
 

@@ -3,7 +3,7 @@ use Rattle.std.proofs.lemmas.Result.{err_from_is_err_and}
 use Rattle.std.proofs.lemmas.Str.{chars-nil}
 use Rattle.virtiofs_map.specs.RuleParts.{head_of, as_written, IsOpened}
 use Rattle.virtiofs_map.specs.RuleText as texts
-use Rattle.virtiofs_map.specs.declared.xattrmap.written.Head.TheVariants.{Map}
+use Rattle.virtiofs_map.specs.declared.xattrmap.reader.Head.TheVariants.{Map}
 use Rattle.virtiofs_map.proofs.RuleFieldLemmas.{opens_at, empty_is_not_opened, fault_from}
 use Rattle.virtiofs_map.proofs.xattrmap.RuleWordLemmas.{chars_nonempty}
 use Rattle.virtiofs_map.proofs.xattrmap.reader.next_rule.Goals as goal

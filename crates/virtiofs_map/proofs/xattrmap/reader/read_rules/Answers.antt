@@ -2,7 +2,7 @@ use Rattle.std.proofs.Common.{length, inl, inr, ap, ◌∙◌, arith, rules, ◌
 use Rattle.std.proofs.lemmas.Str.{chars-nil}
 use Rattle.virtiofs_map.specs.RuleParts.{as_written}
 use Rattle.virtiofs_map.proofs.ReadSoFarLemmas.{start, opened, refused_at, not_out_of_memory, step, finish, nothing}
-use Rattle.virtiofs_map.proofs.ReadSoFarLemmas.{rule_shorter, items_none, items_some}
+use Rattle.virtiofs_map.proofs.ReadSoFarLemmas.{rule_shorter}
 use Rattle.virtiofs_map.proofs.xattrmap.MadeRuleLemmas.{head_is_map}
 use Rattle.virtiofs_map.proofs.TrimLemmas.{chars-trim, skips}
 use Rattle.virtiofs_map.proofs.xattrmap.RuleWordLemmas.{chars_empty, chars_nonempty}
@@ -47,25 +47,25 @@ loop-number-preserved g c =
       c.trim_ascii_start-rest.utf8,
       step _ _ _ _ _ _ (as_written c.in-Ok.found.0) _ _ c.loop-number.invariant.1
           (ap (λ n. n + 1) (c.len-number.ensures ∙ search rules)) more c.in-Ok.ensures.ok
-          (λ e. ap chars (c.in-Ok.ensures.last (head_is_map _ e)) ∙ chars-nil) skipped c.in_ok-push_rules.ensures,
+          (λ e. ap chars (c.in-Ok.ensures.last (head_is_map _ e)) ∙ chars-nil) skipped c.in_ok-rules.ensures,
     )
 
-pub returns-then-is_empty-clause-refused : goal.returns-then-is_empty-clause-refused
-returns-then-is_empty-clause-refused g c =
+pub returns-then-number-eq0-clause-refused : goal.returns-then-number-eq0-clause-refused
+returns-then-number-eq0-clause-refused g c =
     rw c.from.ensures
     (nothing _ _ _ _ c.loop-number.invariant.1 (chars_empty _ _ c.is_empty.ensures c.loop-number-test.false)
-    (items_none _ _ _ (search rules) c.is_empty-2.ensures c.if-is_empty.true))
+    c.if-number-eq0.true)
 
 pub returns-clause-read : goal.returns-clause-read
 returns-clause-read g c =
     let whole =
     finish _ _ _ _ c.loop-number.invariant.1 (chars_empty _ _ c.is_empty.ensures c.loop-number-test.false)
-    (items_some _ _ _ (search rules) c.is_empty-2.ensures c.if-is_empty.false) in
+    c.if-number-eq0.false in
     whole.0
 
 pub returns-clause-counted : goal.returns-clause-counted
 returns-clause-counted g c =
     let whole =
     finish _ _ _ _ c.loop-number.invariant.1 (chars_empty _ _ c.is_empty.ensures c.loop-number-test.false)
-    (items_some _ _ _ (search rules) c.is_empty-2.ensures c.if-is_empty.false) in
+    c.if-number-eq0.false in
     whole.1

@@ -1,7 +1,7 @@
 -- Nodes that were built from patterns are a trie of them.
 use Rattle.std.proofs.Common.{◌≡◌, ◌⊎◌, ℕ, zero, suc, ◌+◌, ◌-◌, ◌*◌, ◌<◌, ◌≤◌, Bool, true, false, List, [], ◌∷◌}
 use Rattle.std.proofs.Common.{◌++◌, Some, length, take, drop, get_or, inl, inr, refl, sym, ap, subst, ◌∙◌, arith}
-use Rattle.std.proofs.Common.{All, Contains, slice_get}
+use Rattle.std.proofs.Common.{All, Contains, length-take, slice_get}
 use Rattle.std.specs.List.{position_or_len}
 use Rattle.std.specs.Option.{option_map_or}
 use Rattle.std.proofs.lemmas.Bool.{cases_lt, cases_Bool, and_parts, and_from, ltb-true, lt-ltb}
@@ -13,7 +13,7 @@ use Rattle.virtiofs_map.specs.NodeParts.{no_answer, answer_of, AreFew, IsPattern
 use Rattle.virtiofs_map.specs.NodeParts.{AreInSlots, BeginsPattern, IsNode, IsTrie, IsBounded}
 use Rattle.virtiofs_map.specs.FirstRule.{acts, pattern}
 use Rattle.virtiofs_map.specs.TrieBuildParts.{text, number, start_of, AreReady, IsLeast, IsUpto, IsPatternRange, IsKid}
-use Rattle.virtiofs_map.specs.TrieBuildParts.{path_of_range, AreBuilt, IsBuilt, AreRangesOrHoles}
+use Rattle.virtiofs_map.specs.TrieBuildParts.{path_of_range, AreBuilt, IsBuilt, hole}
 use Rattle.virtiofs_map.specs.Names.{begins, fits}
 use Rattle.virtiofs_map.specs.Rule.{MappingRule, type_number}
 use Rattle.virtiofs_map.specs.declared.xattrmap.trie.build.PatternRange.{PatternRange}
@@ -23,6 +23,7 @@ use Rattle.virtiofs_map.specs.declared.xattrmap.scopes.Side.{Side}
 use Rattle.virtiofs_map.proofs.xattrmap.trie.build.AnswerLemmas.{IsLeast-same}
 use Rattle.virtiofs_map.proofs.BeginsLemmas.{begins_split, begins_from, begins_length}
 use Rattle.virtiofs_map.proofs.RuleRowLemmas.{below_four}
+use Rattle.virtiofs_map.proofs.xattrmap.trie.build.AppendedRangeLemmas.{part_at}
 use Rattle.virtiofs_map.proofs.xattrmap.trie.build.KidLemmas.{kid_path}
 use Rattle.virtiofs_map.proofs.xattrmap.trie.build.PatternOrderLemmas.{ends, no_zero}
 use Rattle.virtiofs_map.proofs.xattrmap.trie.build.PatternTextLemmas.{text-here, number-here, start_of-here}
@@ -209,19 +210,20 @@ record IsChildOf (patterns : List Pattern) (ranges : List PatternRange) (range :
   pub kid : PatternRange
   pub there : slice_get ranges next ≡ Some kid
   pub first_byte : kid.first_byte ≡ byte
-  pub is : IsKid patterns range kid
+  pub answer : ℕ
+  pub is : IsKid patterns range answer kid
   pub whole : IsPatternRange patterns kid
-  pub built : IsBuilt patterns ranges kid child
+  pub kids : List PatternRange
+  pub built : IsBuilt patterns kids kid child
 
 module _ (side : Side) (rules : List MappingRule) (bytes : List ℕ) (patterns : List Pattern)
     (of_rules : ArePatterns side rules bytes patterns) (few : AreFew rules) (ready : AreReady (length bytes) patterns)
-    (ranges : List PatternRange) (nodes : List Node) (places : AreRangesOrHoles patterns ranges)
-    (built : AreBuilt patterns ranges nodes) (full : length nodes ≡ length ranges) where
+    (ranges : List PatternRange) (nodes : List Node) (built : AreBuilt patterns ranges nodes) (full : length nodes ≡ length ranges) where
   -- the range of a node
   record HasRange (at : ℕ) (node : Node) : Type 0 where
     pub range : PatternRange
     pub there : slice_get ranges at ≡ Some range
-    pub made : IsBuilt patterns ranges range node
+    pub made : IsBuilt patterns (take node.width (drop node.base ranges)) range node
 
   range_at : (at : ℕ) (node : Node) → slice_get nodes at ≡ Some node → HasRange at node
   range_at at node here = elim (slice_get_cases ranges at).1 [
@@ -232,26 +234,35 @@ module _ (side : Side) (rules : List MappingRule) (bytes : List ℕ) (patterns :
 
   module _ (at : ℕ) (range : PatternRange) (node : Node) (there : slice_get ranges at ≡ Some range)
       (here : slice_get nodes at ≡ Some node) (is : IsPatternRange patterns range) where
-    made : IsBuilt patterns ranges range node
+    made : IsBuilt patterns (take node.width (drop node.base ranges)) range node
     made = built.each at range node there here
 
     path_here : path_of patterns ranges at ≡ path_of_range patterns range
     path_here = ap (λ o. option_map_or (path_of_range patterns) o []) there
+
+    -- a place among its children
+    kid_at : (next : ℕ) → node.base ≤ next → next < node.base + node.width
+        → slice_get (take node.width (drop node.base ranges)) (next - node.base) ≡ slice_get ranges next
+    kid_at next from below =
+        part_at ranges node.base node.width (next - node.base) (omega arith) ∙ ap (slice_get ranges) (omega arith)
 
     child_of : (byte next : ℕ) (child : Node) → IsChild nodes node byte next child
         → IsChildOf patterns ranges range byte next child
     child_of byte next child c =
         let has = range_at next child c.here in
         let first_byte : has.range.first_byte ≡ byte = sym has.made.first_byte ∙ c.first_byte in
+        let kid = made.all.each (next - node.base) has.range (kid_at next c.from c.below ∙ has.there) in
         record {
           kid = has.range;
           there = has.there;
           first_byte = first_byte;
-          is = (made.kids is).kids next has.range c.from c.below has.there (λ z. c.real (sym first_byte ∙ z));
-          whole = elim (places.each next has.range has.there).is [
+          answer = kid.answer;
+          is = kid.is (λ z. c.real (sym first_byte ∙ z));
+          whole = elim kid.place [
             | inl p ↦ p
-            | inr h ↦ absurd (c.real (sym first_byte ∙ h.first_byte))
+            | inr h ↦ absurd (c.real (sym first_byte ∙ ap (λ (p : PatternRange). p.first_byte) h))
           ];
+          kids = take child.width (drop child.base ranges);
           built = has.made;
         }
 
@@ -280,7 +291,7 @@ module _ (side : Side) (rules : List MappingRule) (bytes : List ℕ) (patterns :
     paths byte next child c =
         let of = child_of byte next child c in
         kid_path_here byte next child of
-        ∙ kid_path is of.is (of.whole.long of.kid.low (omega arith) of.is.some)
+        ∙ kid_path is of.is
         ∙ ap (λ b. path_of_range patterns range
         ++ b ∷ take of.kid.length (drop (range.depth + 1) (text patterns of.kid.low))) of.first_byte
         ∙ ap (λ l. path_of_range patterns range ++ byte ∷ l) (sym (label_is byte next child of))
@@ -319,17 +330,25 @@ module _ (side : Side) (rules : List MappingRule) (bytes : List ℕ) (patterns :
         → (next : ℕ) × (child : Node) × IsChild nodes node byte next child
     complete byte rule holds acting b =
         let found = goes_on_at byte rule holds acting b in
-        let has = (made.kids is).complete found.0 found.3 found.4 found.5 in
-        elim (slice_get_cases nodes has.at).1 [
-          | inr (past, _) ↦ absurd (omega (arith, slice_get_within ranges has.at has.kid has.here, past))
+        let has = made.all.complete found.0 found.3 found.4 found.5 in
+        let below : has.at < node.width =
+        omega (
+          arith,
+          slice_get_within (take node.width (drop node.base ranges)) has.at has.kid has.here,
+          length-take node.width (drop node.base ranges),
+        ) in
+        let there : slice_get ranges (node.base + has.at) ≡ Some has.kid =
+        sym (part_at ranges node.base node.width has.at below) ∙ has.here in
+        elim (slice_get_cases nodes (node.base + has.at)).1 [
+          | inr (past, _) ↦ absurd (omega (arith, slice_get_within ranges (node.base + has.at) has.kid there, past))
           | inl (child, _, e, _) ↦ (
-            has.at,
+            node.base + has.at,
             child,
             record {
-              from = has.from;
-              below = has.before;
+              from = omega arith;
+              below = omega (arith, below);
               here = e;
-              first_byte = (built.each has.at has.kid child has.here e).first_byte ∙ has.first_byte ∙ found.6;
+              first_byte = (built.each (node.base + has.at) has.kid child there e).first_byte ∙ has.first_byte ∙ found.6;
               real = λ z. no_zero ready found.0 range.depth found.1 found.5 (found.6 ∙ z);
             },
           )
@@ -342,10 +361,13 @@ module _ (side : Side) (rules : List MappingRule) (bytes : List ℕ) (patterns :
       slots = λ k child b e ne.
           (let has = range_at (node.base + k) child e in
           let same = has.made.first_byte in
-          let at = (made.kids is).placed s (node.base + k) has.range (omega arith) (omega arith) has.there
-          (λ z. ne (same ∙ z)) in
-          omega (arith, same, at));
+          let kid = made.all.each k has.range (part_at ranges node.base node.width k b ∙ has.there) in
+          omega (arith, same, kid.placed (λ z. ne (same ∙ z)) s));
     }
+
+    -- only the root has no pattern
+    bare_depth : range.low ≡ range.high → range.depth ≡ 0
+    bare_depth same = grind arith
 
     label_within : node.label + node.length ≤ length bytes
     label_within =
@@ -361,7 +383,7 @@ module _ (side : Side) (rules : List MappingRule) (bytes : List ℕ) (patterns :
               )
           | inr g ↦
               (let same : range.low ≡ range.high = omega (arith, is.rising) in
-              omega (arith, made.bare same, (places.each at range there).empty same, size))
+              omega (arith, made.bare same, is.label, bare_depth same, size))
         ]
 
     -- the path begins the first pattern of the range
@@ -389,7 +411,7 @@ module _ (side : Side) (rules : List MappingRule) (bytes : List ℕ) (patterns :
     is_node = record {
       answers = answered side rules bytes patterns of_rules few ready range is node.answer (made.least is)
           ∙ ap (answer_of side rules) (sym path_here);
-      within = omega (arith, made.within);
+      within = omega (arith, built.within at node here);
       label = label_within;
       placed = λ s _. slots s;
       paths = paths;
@@ -410,11 +432,16 @@ module _ (side : Side) (rules : List MappingRule) (bytes : List ℕ) (patterns :
     ];
     each = λ at node here real.
         (let has = range_at at node here in
-        is_node at has.range node has.there here (elim (places.each at has.range has.there).is [
+        is_node at has.range node has.there here (elim (built.places at has.range has.there) [
           | inl p ↦ p
           | inr h ↦ absurd (elim real [
-            | inl z ↦ h.deep (built.root has.range (ap (slice_get ranges) (sym z) ∙ has.there))
-            | inr ne ↦ ne (has.made.first_byte ∙ h.first_byte)
+            | inl z ↦
+                omega (
+                  arith,
+                  built.root has.range (ap (slice_get ranges) (sym z) ∙ has.there),
+                  ap (λ (p : PatternRange). p.depth) h,
+                )
+            | inr ne ↦ ne (has.made.first_byte ∙ ap (λ (p : PatternRange). p.first_byte) h)
           ])
         ]));
   }
@@ -423,15 +450,21 @@ module _ (side : Side) (rules : List MappingRule) (bytes : List ℕ) (patterns :
   pub are_bounded : All (IsBounded nodes bytes) nodes
   are_bounded k d l =
       let has = range_at k (get_or nodes k d) (slice_get-get_or nodes k d l) in
-      let place = places.each k has.range has.there in
+      let here = slice_get-get_or nodes k d l in
+      let within = built.within k (get_or nodes k d) here in
+      let place = built.places k has.range has.there in
       record {
         answer = has.made.answer;
-        label = elim place.is [
-          | inl is ↦
-              omega (arith, label_within k has.range (get_or nodes k d) has.there (slice_get-get_or nodes k d l) is)
-          | inr h ↦ omega (arith, has.made.bare h.empty)
+        label = elim place [
+          | inl is ↦ omega (arith, label_within k has.range (get_or nodes k d) has.there here is)
+          | inr h ↦ omega (arith, has.made.bare (bare_hole has.range h))
         ];
-        size = omega (arith, has.made.size, place.size);
-        base = omega (arith, has.made.within);
+        size = elim place [
+          | inl is ↦ omega (arith, has.made.size, is.size)
+          | inr h ↦ omega (arith, has.made.size, ap (λ (p : PatternRange). p.length) h)
+        ];
+        base = omega (arith, within);
         width = omega (arith, has.made.high, has.made.low_byte);
-      }
+      } where
+        bare_hole : (range : PatternRange) → range ≡ hole → range.low ≡ range.high
+        bare_hole range h = ap (λ (p : PatternRange). p.low) h ∙ sym (ap (λ (p : PatternRange). p.high) h)

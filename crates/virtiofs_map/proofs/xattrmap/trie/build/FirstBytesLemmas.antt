@@ -3,13 +3,12 @@ use Rattle.std.proofs.Common.{◌≡◌, ◌≢◌, ◌⊎◌, ℕ, ◌+◌, ◌
 use Rattle.std.proofs.Common.{length, refl, ap, ◌∙◌, arith, inl, inr}
 use Rattle.std.proofs.lemmas.Bool.{cases_lt, false_from_ne_true}
 use Rattle.std.proofs.lemmas.List.{get_or_past, length_push}
-use Rattle.virtiofs_map.specs.TrieBuildParts.{text, AreReady, IsPatternRange, next_of, path_of_range, texts_of}
+use Rattle.virtiofs_map.specs.TrieBuildParts.{text, AreReady, GoOnFrom, IsPatternRange, next_of, path_of_range, texts_of}
 use Rattle.virtiofs_map.specs.PatternTrie.{leads, next_bytes, last_byte, are_sparse}
 use Rattle.virtiofs_map.specs.declared.xattrmap.trie.build.PatternRange.{PatternRange}
 use Rattle.virtiofs_map.specs.declared.xattrmap.trie.patterns.Pattern.{Pattern}
 use Rattle.virtiofs_map.proofs.xattrmap.trie.NextByteLemmas.{last_more, met, met_more, met_none}
-use Rattle.virtiofs_map.proofs.xattrmap.trie.build.ChildrenLemmas.{row, longer_on}
-use Rattle.virtiofs_map.proofs.xattrmap.trie.build.RangePathLemmas.{in_leads, leads_in}
+use Rattle.virtiofs_map.proofs.xattrmap.trie.build.RangePathLemmas.{in_leads, leads_in, longer_on, row}
 use Rattle.virtiofs_map.proofs.xattrmap.trie.build.PatternOrderLemmas.{no_zero, small}
 
 -- the byte leads on from the path of a range
@@ -37,21 +36,18 @@ pub record AreFirstBytes (patterns : List Pattern) (range : PatternRange) (from 
   pub met : ((low ≡ from) × (first_bytes patterns range upto ≡ []) × (next_of patterns range low ≡ lowest))
       ⊎ AreMet patterns range lowest low upto
 
--- there is such a byte, of which something holds
-pub record HaveFirstBytes (patterns : List Pattern) (range : PatternRange) (from lowest low : ℕ)
-    (P : ℕ → List ℕ → Type 0) : Type 0 where
+-- there is such a byte, below which so many bytes lead on
+pub record HaveFirstBytes (patterns : List Pattern) (range : PatternRange) (from lowest low count : ℕ) : Type 0 where
   pub upto : ℕ
   pub are : AreFirstBytes patterns range from lowest low upto
-  pub holds : P upto (first_bytes patterns range upto)
+  pub counted : count ≡ length (first_bytes patterns range upto)
 
 module _ {most : ℕ} {patterns : List Pattern} (ready : AreReady most patterns) {range : PatternRange}
-    (is : IsPatternRange patterns range) (from : ℕ) (low_from : range.low ≤ from) (some_from : from < range.high)
-    (ended : (i : ℕ) → range.low ≤ i → i < from → length (text patterns i) ≡ range.depth)
-    (longer : range.depth < length (text patterns from)) where
+    (is : IsPatternRange patterns range) {from : ℕ} (on : GoOnFrom patterns range from) where
   pub next_some : (i : ℕ) → from ≤ i → i < range.high → (range.depth < length (text patterns i))
       × (1 ≤ next_of patterns range i)
   next_some i a b =
-      let long = longer_on ready is from i low_from a b longer in
+      let long = longer_on ready is from i on.low a b on.longer in
       (long, omega (arith, no_zero ready i range.depth (omega (arith, is.within)) long))
 
   -- no byte leads on between the patterns before a place and those from there on
@@ -65,22 +61,25 @@ module _ {most : ℕ} {patterns : List Pattern} (ready : AreReady most patterns)
       ])
 
   -- none yet
+  before_any : (i : ℕ) → range.low ≤ i → i < from → next_of patterns range i < 1
+  before_any i b l = omega (arith, get_or_past (text patterns i) range.depth 0 (omega (arith, on.ended i b l)))
+
+  pub no_first_bytes : first_bytes patterns range (next_of patterns range from) ≡ []
+  no_first_bytes =
+      met_none (led_by patterns range) 1 (next_of patterns range from) (omega arith) (next_some from (omega arith) on.some).1
+      (λ b a l. none_between from 1 before_any b a
+      (λ i c d. omega (arith, row ready is from i on.low c d)))
+
   pub first_bytes_none : AreFirstBytes patterns range from (next_of patterns range from) from (next_of patterns range from)
   first_bytes_none =
-      let some = (next_some from (omega arith) some_from).1 in
-      let before : (i : ℕ) → range.low ≤ i → i < from → next_of patterns range i < 1 =
-      λ i b l. omega (arith, get_or_past (text patterns i) range.depth 0 (omega (arith, ended i b l))) in
-      let after : (i : ℕ) → from ≤ i → i < range.high → next_of patterns range from ≤ next_of patterns range i =
-      λ i b l. row ready is from i low_from b l in
-      let none = met_none (led_by patterns range) 1 (next_of patterns range from) (omega arith) some
-      (λ b a l. none_between from 1 before b a (λ i c d. omega (arith, after i c d))) in
+      let some = (next_some from (omega arith) on.some).1 in
       record {
         some = some;
         small = omega (arith, small ready from range.depth (omega (arith, is.within)));
-        before = λ i b l. omega (arith, before i b l);
-        after = after;
-        few = omega (arith, ap length none);
-        met = inl (refl, none, refl);
+        before = λ i b l. omega (arith, before_any i b l);
+        after = λ i b l. row ready is from i on.low b l;
+        few = omega (arith, ap length no_first_bytes);
+        met = inl (refl, no_first_bytes, refl);
       }
 
   module _ (lowest low upto : ℕ) (are : AreFirstBytes patterns range from lowest low upto) where
@@ -98,7 +97,7 @@ module _ {most : ℕ} {patterns : List Pattern} (ready : AreReady most patterns)
 
       pub bytes_more : first_bytes patterns range (byte + 1) ≡ first_bytes patterns range upto ++ byte ∷ []
       bytes_more =
-          let inside : range.low ≤ low = omega (arith, low_from) in
+          let inside : range.low ≤ low = omega (arith, on.low) in
           met_more (led_by patterns range) upto byte are.some (are.after low (omega arith) (omega arith))
           (λ b above below. none_between low upto are.before b above
           (λ i c d. omega (arith, row ready is low i inside c d)))
@@ -116,8 +115,8 @@ module _ {most : ℕ} {patterns : List Pattern} (ready : AreReady most patterns)
               | inr d ↦ omega (arith, same i d c)
             ];
             after = λ i b c.
-                (let s = row ready is low end (omega (arith, low_from)) (omega arith) (omega arith) in
-                omega (arith, row ready is end i (omega (arith, low_from)) b c, s, other (omega arith)));
+                (let s = row ready is low end (omega (arith, on.low)) (omega arith) (omega arith) in
+                omega (arith, row ready is end i (omega (arith, on.low)) b c, s, other (omega arith)));
             few = omega (arith, size, length_push (first_bytes patterns range upto) byte, are.few, up);
             met = inr (elim are.met [
               | inl none ↦ record {

@@ -1,38 +1,13 @@
 -- The child of a range to which a byte leads: the patterns of the range that go on with the byte.
-use Rattle.std.proofs.Common.{◌≡◌, ◌≢◌, ℕ, zero, suc, ◌+◌, ◌-◌, ◌<◌, ◌≤◌, List, [], ◌∷◌, ◌++◌, ap, subst, refl, add-one, drop, length, take, get_or, inl, inr, sym}
+use Rattle.std.proofs.Common.{◌≡◌, ℕ, zero, suc, ◌+◌, ◌-◌, ◌<◌, ◌≤◌, List, [], ◌∷◌, ◌++◌, ap, subst, refl, add-one, drop, length, take, get_or, inl, inr, sym}
 use Rattle.std.proofs.Common.{◌∙◌, arith, rules}
 use Rattle.std.proofs.lemmas.Bool.{cases_lt}
 use Rattle.std.proofs.lemmas.List.{take-append-drop, take-take, take_more_same, drop-take}
-use Rattle.virtiofs_map.specs.TrieBuildParts.{text, AreReady, IsLeast, IsInside, IsUpto, IsPatternRange, IsRangeOrHole, IsKid, path_of_range}
+use Rattle.virtiofs_map.specs.TrieBuildParts.{text, AreReady, IsLeast, IsInside, IsUpto, IsPatternRange, IsKid, path_of_range}
 use Rattle.virtiofs_map.specs.declared.xattrmap.trie.build.PatternRange.{PatternRange}
 use Rattle.virtiofs_map.specs.declared.xattrmap.trie.patterns.Pattern.{Pattern}
 use Rattle.virtiofs_map.proofs.xattrmap.trie.build.AnswerLemmas.{IsLeast-same}
 use Rattle.virtiofs_map.proofs.xattrmap.trie.build.PatternOrderLemmas.{shorter, same_byte, no_zero, goes_on, between}
-
--- the child has the patterns of a range from one place to another, which are all those with that byte
-pub record IsCut (patterns : List Pattern) (range kid : PatternRange) (answer : ℕ) : Type 0 where
-  pub from : range.low ≤ kid.low
-  pub some : kid.low < kid.high
-  pub upto : kid.high ≤ range.high
-  pub answered : kid.answer ≡ answer
-  pub first_byte : kid.first_byte ≡ get_or (text patterns kid.low) range.depth 0
-  pub depth : kid.depth ≡ range.depth + 1 + kid.length
-  pub size : kid.length < 256
-  pub long : kid.depth ≤ length (text patterns kid.low)
-  pub same : take (range.depth + 1) (text patterns kid.low) ≡ take (range.depth + 1) (text patterns (kid.high - 1))
-      → take kid.depth (text patterns kid.low) ≡ take kid.depth (text patterns (kid.high - 1))
-  pub stops : kid.length < 255 → kid.depth < length (text patterns kid.low)
-      → kid.depth < length (text patterns (kid.high - 1))
-      → get_or (text patterns kid.low) kid.depth 0 ≢ get_or (text patterns (kid.high - 1)) kid.depth 0
-  pub bytes : (i : ℕ) → kid.low ≤ i → i < kid.high
-      → get_or (text patterns i) range.depth 0 ≡ get_or (text patterns kid.low) range.depth 0
-  pub group : (i : ℕ) → range.low ≤ i → i < range.high
-      → get_or (text patterns i) range.depth 0 ≡ get_or (text patterns kid.low) range.depth 0
-      → (kid.low ≤ i) × (i < kid.high)
-
-pub kid_is : {patterns : List Pattern} {range kid : PatternRange} {answer : ℕ} → IsCut patterns range kid answer
-    → IsKid patterns range kid
-kid_is cut = search rules
 
 -- a front, the byte after it, and some bytes after that
 front_and_more : (d l : ℕ) (s : List ℕ) → d < length s
@@ -50,11 +25,11 @@ front_and_more d l s b =
             go (suc d) (x ∷ s) b = go d s (omega arith)
 
 -- the path of a child
-pub kid_path : {patterns : List Pattern} {range kid : PatternRange} → IsPatternRange patterns range
-    → IsKid patterns range kid → kid.depth ≤ length (text patterns kid.low)
+pub kid_path : {patterns : List Pattern} {range kid : PatternRange} {answer : ℕ} → IsPatternRange patterns range
+    → IsKid patterns range answer kid
     → path_of_range patterns kid
     ≡ path_of_range patterns range ++ kid.first_byte ∷ take kid.length (drop (range.depth + 1) (text patterns kid.low))
-kid_path {patterns} {range} {kid} is of long = grind (arith, front_and_more)
+kid_path {patterns} {range} {kid} is of = grind (arith, front_and_more)
 
 -- a front of a front
 front_of : (s t : List ℕ) (m n : ℕ) → m ≤ n → (w : List ℕ) → take n s ≡ take n t → take m s ≡ w → take m t ≡ w
@@ -62,7 +37,7 @@ front_of s t m n l w e f = sym (shorter s t n m l e) ∙ f
 
 module _ {most : ℕ} {patterns : List Pattern} (ready : AreReady most patterns) {range kid : PatternRange} {answer : ℕ}
     (is : IsPatternRange patterns range) (least : IsLeast patterns (IsUpto patterns range) answer)
-    (cut : IsCut patterns range kid answer) where
+    (cut : IsKid patterns range answer kid) where
   inner : (i : ℕ) → kid.low ≤ i → i < kid.high → (range.low ≤ i) × (i < range.high)
   inner i l u = let a = cut.from in let b = cut.upto in (omega (arith, a), omega (arith, b))
 
@@ -138,11 +113,10 @@ module _ {most : ℕ} {patterns : List Pattern} (ready : AreReady most patterns)
     some = inr cut.some;
     rising = omega (arith, cut.some);
     within = omega (arith, cut.upto, is.within);
+    label = omega (arith, cut.depth);
+    size = cut.size;
     long = λ i l u. (all_same i l u).1;
     same = λ i l u. (all_same i l u).0;
     whole = whole;
     least = grind (arith, IsLeast-same, to_kid, from_kid);
   }
-
-  pub kid_is_place : IsRangeOrHole patterns kid
-  kid_is_place = grind (arith, kid_range)

@@ -1,23 +1,23 @@
 -- How many places are below a range: those of its children, and those that are below these.
-use Rattle.std.proofs.Common.{◌≡◌, ◌≢◌, ◌⊎◌, ℕ, zero, suc, ◌+◌, ◌-◌, ◌<◌, ◌≤◌, Bool, true, false, ◌&&◌, not, cond}
+use Rattle.std.proofs.Common.{◌≡◌, ◌≢◌, ◌⊎◌, ℕ, zero, suc, ◌+◌, ◌-◌, ◌<◌, ◌≤◌, Bool, true, false, ◌&&◌, not}
 use Rattle.std.proofs.Common.{nat_lt, nat_eq, List, [], ◌∷◌, ◌++◌, length, take, drop, get_or, sum_by}
 use Rattle.std.proofs.Common.{refl, sym, ap, ◌∙◌, arith, eq-eqb, length-append, append_assoc, append-nil, inl}
 use Rattle.std.proofs.Common.{inr, rules}
 use Rattle.std.proofs.lemmas.Bool.{cases_Bool, cases_lt, and_parts, and_from, eqb-true, false_from_ne_true}
 use Rattle.std.proofs.lemmas.Bool.{lt-ltb, ltb-true, ne_eqb, true≢false}
 use Rattle.std.proofs.lemmas.Bool.Decides.{Decides-eqb}
-use Rattle.std.proofs.lemmas.List.{take-append-drop, length-take-le, length_push}
-use Rattle.std.proofs.lemmas.List.Sums.{sum_by-cons, sum_by_push}
-use Rattle.virtiofs_map.specs.TrieBuildParts.{text, AreReady, IsLeast, IsUpto, IsPatternRange, IsRangeOrHole, Adds}
-use Rattle.virtiofs_map.specs.TrieBuildParts.{below, next_of, path_of_range, texts_of}
+use Rattle.std.proofs.lemmas.List.{take-append-drop, length-take-le}
+use Rattle.std.proofs.lemmas.List.Sums.{sum_by-cons}
+use Rattle.virtiofs_map.specs.TrieBuildParts.{text, AreReady, IsLeast, IsUpto, IsPatternRange, IsRangeOrHole, IsKid}
+use Rattle.virtiofs_map.specs.TrieBuildParts.{below, hole, next_of, path_of_range, texts_of}
 use Rattle.virtiofs_map.specs.Names.{begins}
-use Rattle.virtiofs_map.specs.PatternTrie.{leads, ends, next_bytes, are_sparse, last_byte, places, goes_on}
+use Rattle.virtiofs_map.specs.PatternTrie.{leads, ends, next_bytes, places, goes_on}
 use Rattle.virtiofs_map.specs.PatternTrie.{longest_label, places_below}
 use Rattle.virtiofs_map.specs.declared.xattrmap.trie.build.PatternRange.{PatternRange}
 use Rattle.virtiofs_map.specs.declared.xattrmap.trie.patterns.Pattern.{Pattern}
 use Rattle.virtiofs_map.proofs.BeginsLemmas.{begins_from, begins_trans, begins-append}
 use Rattle.virtiofs_map.proofs.xattrmap.trie.NextByteLemmas.{IsOne, filter_has, met_none, met_sole}
-use Rattle.virtiofs_map.proofs.xattrmap.trie.build.KidLemmas.{IsCut, all_same, kid_is, kid_path as is_path, kid_range}
+use Rattle.virtiofs_map.proofs.xattrmap.trie.build.KidLemmas.{all_same, kid_path as is_path, kid_range}
 use Rattle.virtiofs_map.proofs.xattrmap.trie.build.PatternOrderLemmas.{no_zero, small, goes_on as longer_by}
 use Rattle.virtiofs_map.proofs.xattrmap.trie.build.RangePathLemmas.{IsPassed, byte_there, passed, passed_by, path_size, in_leads}
 use Rattle.virtiofs_map.proofs.xattrmap.trie.build.RangePathLemmas.{goes_in, leads_in}
@@ -113,10 +113,9 @@ below_real : (patterns : List Pattern) (range : PatternRange) → (range.depth �
 unfolding below
 below_real patterns range some = search (rules, Decides-eqb, cases_Bool, ne_eqb)
 
-below_hole : (patterns : List Pattern) (range : PatternRange) → range.low ≡ range.high → range.depth ≢ 0
-    → below patterns range ≡ 0
+pub below_hole : (patterns : List Pattern) → below patterns hole ≡ 0
 unfolding below
-below_hole patterns range empty deep = search (rules, Decides-eqb, ne_eqb)
+below_hole patterns = refl
 
 -- a pattern has no more bytes than all
 no_deeper : (patterns : List Pattern) (i : ℕ) → i < length patterns → length (text patterns i) ≤ levels_of patterns
@@ -284,16 +283,16 @@ module _ {most : ℕ} {patterns : List Pattern} (ready : AreReady most patterns)
 -- where a range has no pattern, or is a hole, no place is below it
 pub bare_below : {most : ℕ} {patterns : List Pattern} → AreReady most patterns → (range : PatternRange)
     → IsRangeOrHole patterns range → range.low ≡ range.high → below patterns range ≡ 0
-bare_below {patterns = patterns} ready range place bare = elim place.is [
+bare_below {patterns = patterns} ready range place bare = elim place [
   | inl is ↦ ended_below ready is (λ i a b. absurd (omega arith))
-  | inr hole ↦ below_hole patterns range bare hole.deep
+  | inr hole ↦ ap (below patterns) hole ∙ below_hole patterns
 ]
 
 -- ---- a child
 
 module _ {most : ℕ} {patterns : List Pattern} (ready : AreReady most patterns) {range kid : PatternRange} {answer : ℕ}
     (is : IsPatternRange patterns range) (least : IsLeast patterns (IsUpto patterns range) answer)
-    (cut : IsCut patterns range kid answer) where
+    (cut : IsKid patterns range answer kid) where
   abbrev path : List ℕ
   path = path_of_range patterns range
 
@@ -304,7 +303,7 @@ module _ {most : ℕ} {patterns : List Pattern} (ready : AreReady most patterns)
   label = take kid.length (drop (range.depth + 1) (text patterns kid.low))
 
   kid_path : path_of_range patterns kid ≡ path ++ kid.first_byte ∷ label
-  kid_path = is_path is (kid_is cut) cut.long
+  kid_path = is_path is cut
 
   label_size : length label ≡ kid.length
   label_size =
@@ -348,79 +347,3 @@ module _ {most : ℕ} {patterns : List Pattern} (ready : AreReady most patterns)
       (all_pass ready front label kid.low (omega (arith, some, cut.upto, is.within)) (whole kid.low (omega arith) some)
       goes_with))
       ∙ ap (λ n. places_below n 255 (texts_of patterns) front) (sym all)
-
--- ---- children so far
-
--- the places appended so far are those of the first bytes, and below them is what is below these
-pub record AreCounted (patterns : List Pattern) (old new : List PatternRange) (deep : ℕ → ℕ) (is_sparse : Bool)
-    (lowest upto : ℕ) (first_bytes : List ℕ) : Type 0 where
-  pub sparse : is_sparse ≡ true → length new ≡ length old + length first_bytes
-  pub dense : is_sparse ≡ false → length new ≡ length old + (upto - lowest)
-  pub below : sum_by (below patterns) new ≡ sum_by (below patterns) old + sum_by deep first_bytes
-
--- none yet
-pub counted_none : (patterns : List Pattern) (ranges : List PatternRange) (deep : ℕ → ℕ) (is_sparse : Bool)
-    (lowest : ℕ) (bytes : List ℕ) → length bytes ≡ 0 → AreCounted patterns ranges ranges deep is_sparse lowest lowest bytes
-counted_none patterns ranges deep is_sparse lowest [] none = grind arith
-counted_none patterns ranges deep is_sparse lowest (x ∷ xs) none = absurd (omega arith)
-
-module _ {patterns : List Pattern} {old mid : List PatternRange} {deep : ℕ → ℕ} {is_sparse : Bool}
-    {lowest upto : ℕ} {first_bytes : List ℕ} (are : AreCounted patterns old mid deep is_sparse lowest upto first_bytes) where
-  -- holes up to the next byte
-  pub counted_holes : {new : List PatternRange} {next : ℕ} → is_sparse ≡ false → length new ≡ length old + (next - lowest)
-      → sum_by (below patterns) new ≡ sum_by (below patterns) mid
-      → AreCounted patterns old new deep is_sparse lowest next first_bytes
-  counted_holes dense size bare = record {
-    sparse = λ e. absurd (true≢false (sym e ∙ dense));
-    dense = λ e. size;
-    below = bare ∙ are.below;
-  }
-
-  -- or none
-  pub counted_sparse : {next : ℕ} → is_sparse ≡ true
-      → AreCounted patterns old mid deep is_sparse lowest next first_bytes
-  counted_sparse sparse = record {
-    sparse = are.sparse;
-    dense = λ e. absurd (true≢false (sym sparse ∙ e));
-    below = are.below;
-  }
-
-  -- few places are added
-  pub counted_few : length first_bytes + lowest ≤ upto → upto ≤ 256 → lowest + length mid ≤ 256 + length old
-  counted_few few small = elim (cases_Bool is_sparse) [
-    | inl e ↦ omega (arith, are.sparse e)
-    | inr e ↦ omega (arith, are.dense e)
-  ]
-
--- one child more
-pub counted_kid : (patterns : List Pattern) (old mid : List PatternRange) (deep : ℕ → ℕ) (is_sparse : Bool)
-    (lowest byte : ℕ) (first_bytes : List ℕ) (kid : PatternRange) → lowest ≤ byte → below patterns kid ≡ deep byte
-    → AreCounted patterns old mid deep is_sparse lowest byte first_bytes
-    → AreCounted patterns old (mid ++ kid ∷ []) deep is_sparse lowest (byte + 1) (first_bytes ++ byte ∷ [])
-counted_kid patterns old mid deep is_sparse lowest byte first_bytes kid l e are =
-    grind (arith, sum_by_push, length_push, cases_Bool)
-
--- as many places were added as the bytes have
-placed_count : (size old lowest upto : ℕ) (is_sparse : Bool) (bytes : List ℕ) → upto ≡ last_byte lowest bytes + 1
-    → is_sparse ≡ are_sparse (lowest ∷ bytes) → (is_sparse ≡ true → size ≡ old + length (lowest ∷ bytes))
-    → (is_sparse ≡ false → size ≡ old + (upto - lowest)) → size ≡ old + places (lowest ∷ bytes)
-unfolding places
-placed_count size old lowest upto true bytes last sparse some none =
-    some refl ∙ ap (λ b. old + cond b (length (lowest ∷ bytes)) (last_byte lowest bytes + 1 - lowest)) sparse
-placed_count size old lowest upto false bytes last sparse some none =
-    none refl ∙ ap (λ n. old + (n - lowest)) last
-    ∙ ap (λ b. old + cond b (length (lowest ∷ bytes)) (last_byte lowest bytes + 1 - lowest)) sparse
-
--- all of them
-pub counted_all : {most : ℕ} {patterns : List Pattern} (ready : AreReady most patterns) {range : PatternRange}
-    (is : IsPatternRange patterns range) (old new : List PatternRange) (is_sparse : Bool) (lowest upto : ℕ)
-    (rest : List ℕ) → is_sparse ≡ are_sparse (next_bytes (texts_of patterns) (path_of_range patterns range))
-    → next_bytes (texts_of patterns) (path_of_range patterns range) ≡ lowest ∷ rest → upto ≡ last_byte lowest rest + 1
-    → AreCounted patterns old new (deep_of patterns range) is_sparse lowest upto (lowest ∷ rest)
-    → Adds patterns old new (below patterns range)
-counted_all {patterns = patterns} ready {range} is old new is_sparse lowest upto rest sparse all last are =
-    let whole : below patterns range ≡ places (lowest ∷ rest) + sum_by (deep_of patterns range) (lowest ∷ rest) =
-    range_below ready is ∙ ap (λ bytes. places bytes + sum_by (deep_of patterns range) bytes) all in
-    let count = placed_count (length new) (length old) lowest upto is_sparse rest last (sparse ∙ ap are_sparse all)
-    are.sparse are.dense in
-    omega (arith, whole, are.below, count)

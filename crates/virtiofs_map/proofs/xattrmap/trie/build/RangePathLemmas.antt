@@ -11,6 +11,7 @@ use Rattle.virtiofs_map.specs.PatternTrie.{leads}
 use Rattle.virtiofs_map.specs.declared.xattrmap.trie.build.PatternRange.{PatternRange}
 use Rattle.virtiofs_map.specs.declared.xattrmap.trie.patterns.Pattern.{Pattern}
 use Rattle.virtiofs_map.proofs.BeginsLemmas.{begins_split, begins_from, begins_trans, begins-append}
+use Rattle.virtiofs_map.proofs.xattrmap.trie.build.PatternOrderLemmas.{goes_on, no_zero, rising}
 
 -- ---- a test of texts
 
@@ -96,3 +97,17 @@ module _ {most : ℕ} {patterns : List Pattern} (ready : AreReady most patterns)
       let found = passed patterns (begins (path_of_range patterns range ++ byte ∷ [])) led in
       let goes = goes_in found.at byte found.within found.passes in
       (found.at, goes.0, goes.1, goes.3)
+
+  -- the bytes after the path of a range rise
+  pub row : (i j : ℕ) → range.low ≤ i → i ≤ j → j < range.high
+      → get_or (text patterns i) range.depth 0 ≤ get_or (text patterns j) range.depth 0
+  row i j l le u =
+      rising ready i j range.depth le (omega (arith, is.within))
+      (is.same i l (omega arith) ∙ sym (is.same j (omega arith) u))
+
+  -- from a pattern on that is longer than the path, all are
+  pub longer_on : (from i : ℕ) → range.low ≤ from → from ≤ i → i < range.high → range.depth < length (text patterns from)
+      → range.depth < length (text patterns i)
+  longer_on from i l a u longer =
+      let full = no_zero ready from range.depth (omega (arith, is.within)) longer in
+      goes_on ready i range.depth (λ z. full (omega (arith, row from i l a u)))

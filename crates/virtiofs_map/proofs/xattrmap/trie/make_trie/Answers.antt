@@ -3,13 +3,11 @@ use Rattle.std.proofs.lemmas.Result.{on_ok_weaker}
 use Rattle.virtiofs_map.specs.NodeParts.{AreFew, ArePatterns, AreTrieRows}
 use Rattle.virtiofs_map.specs.Rule.{MappingRule}
 use Rattle.virtiofs_map.specs.declared.xattrmap.scopes.Side.{Side}
-use Rattle.virtiofs_map.proofs.xattrmap.trie.PatternLemmas.{AreReady-made}
 use Rattle.virtiofs_map.proofs.xattrmap.trie.make_trie.Goals as goal
 
 pub build_trie-requires : goal.build_trie-requires
 build_trie-requires g c =
-    rw (c.as_slice.ensures.value, c.bytes.ensures.bytes)
-    (AreReady-made _ _ _ _ c.in_ok-fill_patterns.ensures.patterns c.requires c.in_ok-fill_patterns.ensures.order)
+    rw (c.as_slice.ensures.value, c.bytes.ensures.bytes) c.in_ok-fill_patterns.ensures.ready
 
 pub returns : goal.returns
 returns g c =

@@ -6,20 +6,20 @@ use Rattle.std.proofs.lemmas.List.{append_assoc, length-append, take_at}
 use Rattle.std.proofs.lemmas.List.Elements.{All-same}
 use Rattle.virtiofs_map.specs.NodeParts.{IsNode, IsChild, IsReadable, IsReal, IsTrie, CountsWalk, Ends, Misses, Passes}
 use Rattle.virtiofs_map.specs.NodeParts.{StandsAt, StaysAt, StepsTo, answer_for, answer_of, label_of}
-use Rattle.virtiofs_map.specs.FirstRule.{acts, pattern, deciding_length, most_shared, shared}
+use Rattle.virtiofs_map.specs.FirstRule.{acts, pattern, most_shared, shared}
 use Rattle.virtiofs_map.specs.Names.{begins, fits, first}
 use Rattle.virtiofs_map.specs.Rule.{MappingRule}
 use Rattle.virtiofs_map.specs.Steps.{count_after}
 use Rattle.virtiofs_map.specs.declared.xattrmap.trie.node.Node.{Node}
 use Rattle.virtiofs_map.specs.declared.xattrmap.scopes.Side.{Side}
 use Rattle.virtiofs_map.proofs.BeginsLemmas.{begins_length}
-use Rattle.virtiofs_map.proofs.xattrmap.FittingLemmas.{begins_front, deciding_within, fits_is, front_more, label_begins}
+use Rattle.virtiofs_map.proofs.xattrmap.FittingLemmas.{begins_front, fits_is, front_more, label_begins}
 use Rattle.virtiofs_map.proofs.xattrmap.FittingLemmas.{same_first}
 use Rattle.virtiofs_map.proofs.xattrmap.trie.SharedLemmas.{most_at_least, most_at_most, shared_front, shared_misses}
 use Rattle.virtiofs_map.proofs.xattrmap.trie.SharedLemmas.{shared_path, shared_whole, shared_within}
-use Rattle.virtiofs_map.proofs.xattrmap.PathLemmas.{path_no_zero, path_short}
+use Rattle.virtiofs_map.proofs.xattrmap.PathLemmas.{path_no_zero}
 
-module _ (side : Side) (rules : List MappingRule) (nodes : List Node) (bytes : List ℕ)
+module _ {side : Side} {rules : List MappingRule} {nodes : List Node} {bytes : List ℕ}
     (trie : IsTrie side rules nodes bytes) where
   -- a child is no hole
   is_real : (parent child : Node) (byte at : ℕ) → IsChild nodes parent byte at child → IsReal at child
@@ -34,13 +34,13 @@ module _ (side : Side) (rules : List MappingRule) (nodes : List Node) (bytes : L
       → IsReadable nodes bytes node
   readable at node here real = grind (arith, child_is)
 
-  module _ (name : List ℕ) (start : ℕ) where
+  module _ {name : List ℕ} {start : ℕ} where
     -- at the root nothing is passed
     pub stands_at_root : (root : Node) (count : ℕ) → slice_get nodes 0 ≡ Some root
         → count ≡ count_after start 1 → StandsAt side rules nodes bytes trie name root name start count
     stands_at_root root count here counts = grind arith
 
-    module _ (node : Node) (rest : List ℕ) (before : ℕ)
+    module _ {node : Node} {rest : List ℕ} {before : ℕ}
         (stands : StandsAt side rules nodes bytes trie name node rest start before) where
       this : IsNode side rules nodes bytes trie.path stands.at node
       this = trie.each stands.at node stands.here stands.real
@@ -49,16 +49,15 @@ module _ (side : Side) (rules : List MappingRule) (nodes : List Node) (bytes : L
       stands_readable = readable stands.at node stands.here stands.real
 
       -- a step leads on to the child
-      pub stands_on : (child : Node) (left : List ℕ) (after : ℕ)
-          → StepsTo nodes bytes node rest child left before after
-          → StandsAt side rules nodes bytes trie name child left start after
-      stands_on child left after step =
-          let leads = step.to.leads in
-          let path = this.paths step.byte step.to.place child leads in
+      pub stands_on : {first labels after : ℕ} {left row : List ℕ}
+          → (step : StepsTo first labels nodes bytes node rest row left before after)
+          → StandsAt side rules nodes bytes trie name step.child left start after
+      stands_on step =
+          let path = this.paths step.byte step.place step.child step.leads in
           record {
-            at = step.to.place;
-            here = leads.here;
-            real = is_real node child step.byte step.to.place leads;
+            at = step.place;
+            here = step.leads.here;
+            real = is_real node step.child step.byte step.place step.leads;
             split = grind (arith, append_assoc);
             counted = grind (arith, length-append);
           }
@@ -74,7 +73,7 @@ module _ (side : Side) (rules : List MappingRule) (nodes : List Node) (bytes : L
           ap (λ row. begins row (pattern side rule)) (sym (front_more (trie.path stands.at) left name byte split))
           ∙ shared_front (pattern side rule) name (suc (length (trie.path stands.at))) (omega arith)
 
-      module _ (after : ℕ) (ends : Ends nodes node rest before after) where
+      module _ {after : ℕ} (ends : Ends nodes node rest before after) where
         -- where no child is there, no pattern shares more than the path
         stops : (rule : MappingRule) → Contains rules rule → acts side rule ≡ true
             → length (trie.path stands.at) < shared (pattern side rule) name → ⊥
@@ -91,13 +90,13 @@ module _ (side : Side) (rules : List MappingRule) (nodes : List Node) (bytes : L
         most_at_end : most_shared side rules name ≡ length (trie.path stands.at)
         most_at_end = grind (arith, this, shared_path, most_at_least, most_at_most, cases_lt, stops)
 
-      module _ (whole : Bool) (after : ℕ) (misses : Misses nodes bytes node rest whole before after) where
+      module _ {whole : Bool} {after : ℕ} (misses : Misses nodes bytes node rest whole before after) where
         missed : name ≡ trie.path stands.at ++ misses.byte ∷ misses.left
         missed = stands.split ∙ ap (λ row. trie.path stands.at ++ row) misses.split
 
-        path_on : trie.path misses.to.place
+        path_on : trie.path misses.place
             ≡ trie.path stands.at ++ misses.byte ∷ label_of bytes misses.child
-        path_on = this.paths misses.byte misses.to.place misses.child misses.to.leads
+        path_on = this.paths misses.byte misses.place misses.child misses.leads
 
         -- a pattern that shares more than the path goes on with the label of the child
         goes_on : (rule : MappingRule) → Contains rules rule → acts side rule ≡ true
@@ -105,7 +104,7 @@ module _ (side : Side) (rules : List MappingRule) (nodes : List Node) (bytes : L
             → begins (trie.path stands.at ++ misses.byte ∷ label_of bytes misses.child) (pattern side rule) ≡ true
         goes_on rule within acting more =
             ap (λ row. begins row (pattern side rule)) (sym path_on)
-            ∙ this.whole misses.byte misses.to.place misses.child rule misses.to.leads within acting
+            ∙ this.whole misses.byte misses.place misses.child rule misses.leads within acting
             (next_byte misses.byte misses.left misses.split rule more)
 
         -- and shares as much of it as the name does
@@ -133,7 +132,7 @@ module _ (side : Side) (rules : List MappingRule) (nodes : List Node) (bytes : L
               -- the path of the child begins a pattern
               least : length (trie.path stands.at) + (1 + shared (label_of bytes misses.child) misses.left)
                   ≤ most_shared side rules name
-              least = elim (child_is node misses.child misses.byte misses.to.place misses.to.leads).front [
+              least = elim (child_is node misses.child misses.byte misses.place misses.leads).front [
                 | inl none ↦
                     absurd
                     (let both = length-append (trie.path stands.at) (misses.byte ∷ label_of bytes misses.child) in
@@ -143,7 +142,7 @@ module _ (side : Side) (rules : List MappingRule) (nodes : List Node) (bytes : L
                     omega (arith, is, most_at_least side rules name of.rule of.inside of.acting))
               ]
 
-      module _ (whole : Bool) (after : ℕ) (stays : StaysAt nodes bytes node rest whole before after) where
+      module _ {whole : Bool} {after : ℕ} (stays : StaysAt nodes bytes node rest whole before after) where
         front_is : take (length (trie.path stands.at)) name ≡ trie.path stands.at
         front_is = grind (arith, take_at)
 
@@ -155,11 +154,11 @@ module _ (side : Side) (rules : List MappingRule) (nodes : List Node) (bytes : L
             let more : length (trie.path stands.at) < shared (pattern side rule) name =
             omega (arith, shared_whole (pattern side rule) name fit) in
             elim stays [
-              | inl ends ↦ stops after ends rule within acting more
+              | inl ends ↦ stops ends rule within acting more
               | inr misses ↦
-                  (let starts = goes_on whole after misses rule within acting more in
+                  (let starts = goes_on misses rule within acting more in
                   let begun = label_begins (trie.path stands.at) (label_of bytes misses.child) misses.left name
-                  (pattern side rule) misses.byte (missed whole after misses) starts fit in
+                  (pattern side rule) misses.byte (missed misses) starts fit in
                   true≢false (sym begun ∙ misses.unlike))
             ]
 
@@ -181,15 +180,12 @@ module _ (side : Side) (rules : List MappingRule) (nodes : List Node) (bytes : L
         answers : node.answer ≡ answer_of side rules name
         answers = this.answers ∙ ap (answer_for rules) (sym first_is)
 
-        decided : deciding_length side rules name ≤ length (trie.path stands.at)
-        decided = search (first_is, deciding_within)
-
         -- where no step is left, the node has the answer, and its path was passed
         pub stands_passed : Passes side rules name node.answer (length name - length rest)
         stands_passed =
             let size : length name - length rest ≡ length (trie.path stands.at) = omega (arith, path_within) in
             record {
-              walks = grind (arith, answers, decided, path_within, path_short, this);
+              answers = answers;
               no_zero = λ plain. All-same (λ byte. byte ≢ 0) _ (trie.path stands.at)
                   (ap (λ n. take n name) size ∙ front_is)
                   (path_no_zero side rules (trie.path stands.at) this.front plain);
@@ -201,10 +197,10 @@ module _ (side : Side) (rules : List MappingRule) (nodes : List Node) (bytes : L
           answers = answers;
           counted = elim stays [
             | inl ends ↦
-                (let most = most_at_end after ends in let was = stands.counted in let same = ends.counted in
+                (let most = most_at_end ends in let was = stands.counted in let same = ends.counted in
                 omega (arith, most, was, same))
             | inr misses ↦
-                (let most = most_at_miss whole after misses in let was = stands.counted in
+                (let most = most_at_miss misses in let was = stands.counted in
                 omega (arith, most, was, misses.counted is))
           ];
         }

@@ -1,31 +1,35 @@
-use Rattle.std.proofs.Common.{sym, subst}
-use Rattle.std.specs.List.Sorted.{IsPermutation}
-use Rattle.virtiofs_map.specs.AuditParts.{other_rules}
-use Rattle.virtiofs_map.specs.NamesImage.{IsMapOf}
-use Rattle.virtiofs_map.proofs.audit.AuditLeastLemmas.{if_ok_weaker}
+use Rattle.std.proofs.Common.{sym, ◌∙◌, subst, ◌<◌, length}
+use Rattle.std.specs.List.{All}
+use Rattle.virtiofs_map.specs.Audit.{HasFault}
+use Rattle.virtiofs_map.specs.AuditParts.{FailsAs}
+use Rattle.virtiofs_map.proofs.audit.AuditFaultLemmas.{fault_as, fault_passes}
+use Rattle.virtiofs_map.proofs.audit.AuditPassLemmas.{host_is_name, never}
 use Rattle.virtiofs_map.proofs.audit.question.Question.has_fault.Goals as goal
-
-pub returns-in-Lost : goal.returns-in-Lost
-returns-in-Lost g c =
-    if_ok_weaker c.is_lost.result _ _ (λ answer h rules others asked is. rw c.in-Lost.is (h rules asked.map is))
-    c.is_lost.ensures
 
 pub returns-in-Stray : goal.returns-in-Stray
 returns-in-Stray g c = λ rules others asked is. rw c.in-Stray.is (c.is_stray.ensures rules asked.map is)
 
-pub returns-in-Seen : goal.returns-in-Seen
-returns-in-Seen g c =
-    if_ok_weaker c.is_seen.result _ _
-    (λ answer h rules others asked is.
-    (let other = subst (λ f. IsMapOf (other_rules f rules others) c.args.self.now.other) c.in-Seen.is asked.other in
-    rw c.in-Seen.is (h rules others asked.map other is)))
-    c.is_seen.ensures
+pub returns-in_default-added_prefix : goal.returns-in_default-added_prefix
+returns-in_default-added_prefix g c = λ rules others asked is.
+    let fault = c.args.self.now.fault in
+    let name = c.args.name.now in
+    never (HasFault fault rules others name)
+    (λ bad.
+    (let puts = (fault_passes fault rules others name c.in_default.not-Stray bad).puts in
+    let none = c.in_default-added_prefix.ensures rules asked.map in cc))
 
-pub returns-in-Shared : goal.returns-in-Shared
-returns-in-Shared g c =
-    if_ok_weaker c.is_shared.result _ _
-    (λ answer h rules others asked is.
-    (let other = subst (λ f. IsMapOf (other_rules f rules others) c.args.self.now.other) c.in-Shared.is asked.other in
-    rw c.in-Shared.is (h rules others asked.map other (subst (IsPermutation _) (sym c.deref.ensures.value)
-    (asked.reach c.in-Shared.is)) is)))
-    c.is_shared.ensures
+pub returns : goal.returns
+returns g c = λ rules others asked is.
+    let fault = c.args.self.now.fault in
+    let name = c.args.name.now in
+    let added = c.in-Some.added.now in
+    let host = c.as_slice.result.now in
+    let puts = c.in-Some.ensures rules asked.map in
+    let same = c.as_slice.ensures.value ∙ c.in_ok-put_together.ensures in
+    let below = subst (All (λ byte. byte < 256)) (sym c.as_slice.ensures.value) c.type_inv.room in
+    let fails =
+    c.fails_as.ensures rules others asked (host_is_name rules name added host asked.map.no_zero is puts same below) in
+    let faulty = fault_as fault rules others name added c.in_default.not-Stray asked.map.no_zero is puts in (
+      λ yes. faulty.1 (subst (λ h. FailsAs fault rules others h (length added)) same (fails.0 yes)),
+      λ bad. fails.1 (subst (λ h. FailsAs fault rules others h (length added)) (sym same) (faulty.0 bad)),
+    )

@@ -1,5 +1,4 @@
 use Rattle.std.proofs.Common.{◌≡◌, ◌<◌, length, refl, arith, rules}
-use Rattle.virtiofs_map.proofs.xattrmap.ListingLemmas.{no_map_unseen}
 use Rattle.virtiofs_map.proofs.ServerListLemmas.{short_more, shorter_more}
 use Rattle.virtiofs_map.proofs.xattrmap.image.list.NamesListLemmas.{IsWhole, listed_all, listed_first, listed_hidden}
 use Rattle.virtiofs_map.proofs.xattrmap.image.list.NamesListLemmas.{listed_no_name, listed_shown, listed_undecided}
@@ -49,11 +48,6 @@ names-preserved c = record {
       shorter_more _ _ _ _ _ _ c.put_name-end.ensures.behind some c.names.invariant.shorter
       (rw c.in-Listed.is at c.first_seen.ensures.zero) more);
 }
-
-pub returns-in-NoMap-clause-list : goal.returns-in-NoMap-clause-list
-returns-in-NoMap-clause-list c = λ map image.
-    let is = c.in-Some.ensures.map map image in
-    no_map_unseen map c.names.rest.now c.first_seen.result.1.now (rw c.in-NoMap.is at c.first_seen.ensures.first map is)
 
 pub returns-in-Undecided-clause-list : goal.returns-in-Undecided-clause-list
 returns-in-Undecided-clause-list c = λ map image.

@@ -1,6 +1,6 @@
-use Rattle.std.proofs.Common.{◌≡◌, ◌*◌, ◌/◌, ◌+◌, ◌≤◌, length, refl, subst, sym, ap, ◌∙◌, arith, flat_map}
+use Rattle.std.proofs.Common.{◌≡◌, ◌*◌, ◌/◌, ◌+◌, ◌≤◌, ◌++◌, length, refl, subst, sym, ap, ◌∙◌, arith, flat_map}
 use Rattle.virtiofs_map.specs.NodeParts.{AreTrieRows, row_in}
-use Rattle.virtiofs_map.specs.NamesImage.{longest_image, rule_rows}
+use Rattle.virtiofs_map.specs.NamesImage.{longest_image}
 use Rattle.virtiofs_map.specs.NamesImageParts.{ArePlaces, IsWholeImage}
 use Rattle.virtiofs_map.specs.declared.xattrmap.scopes.Side.TheVariants.{Client, Server}
 use Rattle.virtiofs_map.proofs.xattrmap.image.write.NamesImageLemmas.{content_is, content_whole, nodes_fit, rows_are}
@@ -49,9 +49,9 @@ returns g c =
     subst (IsWholeImage rules.list)
     (sym
     (content_is places (flat_map (row_in 6 places.bytes) clients.nodes)
-    (flat_map (row_in (places.server / 8) places.bytes) servers.nodes) (rule_rows rules.list rules.spans) rules.bytes
+    (flat_map (row_in (places.server / 8) places.bytes) servers.nodes) rules.rows rules.bytes
     _ _ _ _ _ _ _ _ _ _ c.in_ok-image.ensures.items c.in_ok-push_header.ensures client_pushed server_pushed
-    c.in_ok-push_rules.ensures c.in_ok-extend_from_slice.ensures.items c.in_ok-push_le_u64.ensures refl refl c.bytes-patterns.ensures.bytes))
-    (content_whole rules.list rules.spans clients.nodes servers.nodes rules.bytes places are
-    c.bytes-patterns.ensures.spans c.bytes-patterns.ensures.whole c.requires clients.trie servers.trie
-    clients.rows_of.bytes servers.rows_of.bytes)
+    (c.in_ok-extend_from_slice.ensures.items ∙ ap (λ l. c.push_rows-2.new.image.items ++ l) c.rows.ensures)
+    c.in_ok-extend_from_slice-2.ensures.items c.in_ok-push_le_u64.ensures refl refl c.bytes.ensures.bytes))
+    (content_whole rules.list clients.nodes servers.nodes rules.rows rules.bytes places are c.bytes.ensures.kept
+    c.requires clients.trie servers.trie clients.rows_of.bytes servers.rows_of.bytes)

@@ -1,4 +1,4 @@
-use Rattle.std.proofs.Common.{◌≡◌, ◌≤◌, ◌-◌, length}
+use Rattle.std.proofs.Common.{◌≤◌, ◌-◌}
 use Rattle.virtiofs_map.proofs.xattrmap.trie.build.FirstBytesLemmas.{HaveFirstBytes}
 use Rattle.virtiofs_map.proofs.xattrmap.trie.build.are_children_sparse.Given as goal
 
@@ -7,7 +7,7 @@ abbrev pub invariant-loop-low : goal.invariant-loop-low
 invariant-loop-low l = record {
   from : l.from ≤ l.low;
   upto : l.low ≤ l.range.high;
-  groups : HaveFirstBytes l.patterns l.range l.from l.lowest l.low (λ upto bytes. l.count ≡ length bytes);
+  groups : HaveFirstBytes l.patterns l.range l.from l.lowest l.low l.count;
 }
 
 -- what is left

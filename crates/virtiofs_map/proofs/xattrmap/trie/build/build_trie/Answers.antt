@@ -1,12 +1,12 @@
-use Rattle.std.proofs.Common.{◌≡◌, [], ◌∷◌, ◌++◌, length, refl, sym, ap, subst, ◌∙◌, arith, sum_by, take_all}
+use Rattle.std.proofs.Common.{◌≡◌, [], ◌∷◌, ◌++◌, length, length-append, refl, sym, ap, subst, ◌∙◌, arith, sum_by, take_all}
 use Rattle.std.proofs.lemmas.List.{length_push}
 use Rattle.std.proofs.lemmas.List.Sums.{sum_by-take-le}
 use Rattle.virtiofs_map.specs.PatternTrie.{nodes_in_all}
-use Rattle.virtiofs_map.specs.TrieBuildParts.{AreBuilt, AreRangesOrHoles, below, texts_of}
+use Rattle.virtiofs_map.specs.TrieBuildParts.{AreBuilt, below, texts_of}
 use Rattle.virtiofs_map.specs.NodeParts.{patterns_on}
 use Rattle.virtiofs_map.proofs.xattrmap.trie.AppendedRowLemmas.{rows_more, rows_none}
 use Rattle.virtiofs_map.proofs.xattrmap.trie.SameTextsLemmas.{nodes_same}
-use Rattle.virtiofs_map.proofs.xattrmap.trie.build.BuiltSoFarLemmas.{built_more, root, root_built, root_places, root_total}
+use Rattle.virtiofs_map.proofs.xattrmap.trie.build.BuiltSoFarLemmas.{built_more, root, root_built, root_total}
 use Rattle.virtiofs_map.proofs.xattrmap.trie.build.BuiltSoFarLemmas.{total_more}
 use Rattle.virtiofs_map.proofs.xattrmap.trie.build.TrieBuildLemmas.{place_here}
 use Rattle.virtiofs_map.proofs.xattrmap.trie.build.BuiltTrieLemmas.{are_bounded, is_trie}
@@ -18,7 +18,6 @@ loop-at-init g c =
     let items : c.push.new.self.items ≡ root (length patterns) ∷ [] = c.in_ok-push.ensures.items
     ∙ ap (λ ranges. ranges ++ root (length patterns) ∷ []) c.clear-2.ensures.items in
     record {
-      places = subst (AreRangesOrHoles patterns) (sym items) (root_places patterns);
       within = omega arith;
       made = record {
         nodes = [];
@@ -39,11 +38,16 @@ loop-at-smaller g c =
       sum_by-take-le (below c.args.patterns.now) ranges c.loop-at.at,
     )
 
+pub node_of-requires-clause-place : goal.node_of-requires-clause-place
+node_of-requires-clause-place g c =
+    c.loop-at.invariant.made.built.places c.loop-at.at c.index-range.result.now
+    (place_here c.loop-at.ranges.items c.loop-at.at c.index-range.result.now (omega (arith, c.loop-at-test.true))
+    c.index-range.ensures)
+
 pub loop-at-preserved : goal.loop-at-preserved
 loop-at-preserved g c =
-    let inv = c.loop-at.invariant in
-    let made = inv.made in
-    let expanded = c.in_ok-node.ensures.expanded in
+    let made = c.loop-at.invariant.made in
+    let expanded = c.in_ok-node.ensures in
     let range = c.index-range.result.now in
     let patterns = c.args.patterns.now in
     let old = c.loop-at.ranges.items in
@@ -51,14 +55,12 @@ loop-at-preserved g c =
     let node = c.in_ok-node.node in
     let here = place_here old c.loop-at.at range (omega (arith, c.loop-at-test.true)) c.index-range.ensures in
     record {
-      places = expanded.places;
-      within = omega (arith, c.loop-at-test.true, expanded.longer.longer);
+      within = omega (arith, c.loop-at-test.true, ap length expanded.are ∙ length-append old expanded.kids);
       made = record {
         nodes = made.nodes ++ node ∷ [];
         counted = omega (arith, made.counted, length_push made.nodes node);
-        built = built_more patterns old new made.nodes range node c.loop-at.at made.counted here made.built expanded;
-        total = total_more patterns old new range c.loop-at.at (nodes_in_all (texts_of patterns)) here expanded.longer
-            c.in_ok-node.ensures.counted made.total;
+        built = built_more patterns old new range node c.loop-at.at here expanded made.nodes made.counted made.built;
+        total = total_more patterns old new range node c.loop-at.at here expanded (nodes_in_all (texts_of patterns)) made.total;
         rows_of =
             rows_more c.loop-at.rows.items c.push_row.new.rows.items c.args.first made.nodes node
             c.placed.result made.rows_of c.placed.ensures.placed c.placed.ensures.bytes.0 c.in_ok-push_row.ensures.row
@@ -72,15 +74,14 @@ returns g c = λ side rules of_rules few.
     let patterns = c.args.patterns.now in
     let bytes = c.args.bytes.now in
     let ranges = c.loop-at.ranges.items in
-    let places = c.loop-at.invariant.places in
     let full : length made.nodes ≡ length ranges =
     omega (arith, c.loop-at-test.false, made.counted, made.built.counted) in
     let whole = ap (sum_by (below patterns)) (take_all c.loop-at.at ranges (omega (arith, c.loop-at-test.false))) in
     record {
       nodes = made.nodes;
       trie = record {
-        trie = is_trie side rules bytes patterns of_rules few c.requires ranges made.nodes places made.built full;
-        bounded = are_bounded side rules bytes patterns of_rules few c.requires ranges made.nodes places made.built full;
+        trie = is_trie side rules bytes patterns of_rules few c.requires ranges made.nodes made.built full;
+        bounded = are_bounded side rules bytes patterns of_rules few c.requires ranges made.nodes made.built full;
         counted = omega (arith, full, made.total, whole, nodes_same (patterns_on side rules) (texts_of patterns) of_rules.texts);
         few = few;
       };

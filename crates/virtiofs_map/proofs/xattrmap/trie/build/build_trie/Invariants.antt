@@ -1,12 +1,11 @@
 use Rattle.std.proofs.Common.{◌-◌, ◌≤◌, length}
 use Rattle.virtiofs_map.specs.PatternTrie.{nodes_in_all}
-use Rattle.virtiofs_map.specs.TrieBuildParts.{AreMade, AreRangesOrHoles, texts_of}
+use Rattle.virtiofs_map.specs.TrieBuildParts.{AreMade, texts_of}
 use Rattle.virtiofs_map.proofs.xattrmap.trie.build.build_trie.Given as goal
 
 -- the first ranges have rows
 abbrev pub invariant-loop-at : goal.invariant-loop-at
 invariant-loop-at g l = record {
-  places : AreRangesOrHoles l.patterns l.ranges.items;
   within : l.at ≤ length l.ranges.items;
   made : AreMade l.patterns l.ranges.items l.rows.items l.first l.at;
 }

@@ -1,18 +1,49 @@
-use Rattle.std.proofs.Common.{◌≡◌, length, inl, inr, sym, ap, ◌∙◌, arith}
+use Rattle.std.proofs.Common.{◌≡◌, ◌+◌, length, inl, inr, sym, ap, ◌∙◌, arith}
 use Rattle.std.proofs.lemmas.Bool.{cases_lt}
-use Rattle.virtiofs_map.specs.TrieBuildParts.{text}
-use Rattle.virtiofs_map.proofs.xattrmap.trie.build.AnswerLemmas.{IsLeastOf-more}
+use Rattle.virtiofs_map.specs.TrieBuildParts.{text, IsInside}
+use Rattle.virtiofs_map.proofs.xattrmap.trie.build.AnswerLemmas.{IsLeast-more, IsLeast-same}
+use Rattle.virtiofs_map.proofs.xattrmap.trie.build.TrieBuildLemmas.{IsMet, least_ended}
 use Rattle.virtiofs_map.proofs.xattrmap.trie.build.ended.Goals as goal
 
-pub loop-at-preserved : goal.loop-at-preserved
-loop-at-preserved c = record {
-  ended = λ i from upto. elim (cases_lt i c.loop-at.at) [
-    | inl b ↦ c.loop-at.invariant.ended i from b
-    | inr g ↦
-        (let same : i ≡ c.loop-at.at = omega (arith, g) in
-        ap (λ n. length (text c.args.patterns.now n)) same ∙ sym (ap length c.bytes_of.ensures) ∙ omega arith)
-  ];
-  least = IsLeastOf-more c.args.patterns.now c.args.range.answer c.args.range.low c.loop-at.at c.loop-at.answer
-      c.min-answer.result (omega arith) c.loop-at.invariant.least
-      (omega (arith, c.min-answer.ensures, c.answer_at.ensures));
+pub loop-at-init : goal.loop-at-init
+loop-at-init c = record {
+  ended = λ i from upto. absurd (omega arith);
+  least = IsLeast-same c.args.patterns.now (IsInside c.args.patterns.now c.args.range)
+      (IsMet c.args.patterns.now c.args.range c.args.range.low) c.args.range.answer c.requires.range.least
+      (λ i inside. inl inside) (λ i either. grind arith);
 }
+
+pub loop-at-preserved : goal.loop-at-preserved
+loop-at-preserved c =
+    let at = c.loop-at.at in
+    let range = c.args.range in
+    let patterns = c.args.patterns.now in
+    record {
+      ended = λ i from upto. elim (cases_lt i at) [
+        | inl b ↦ c.loop-at.invariant.ended i from b
+        | inr g ↦
+            (let same : i ≡ at = omega (arith, g) in
+            ap (λ n. length (text patterns n)) same ∙ sym (ap length c.bytes_of.ensures) ∙ omega arith)
+      ];
+      least = IsLeast-more patterns (IsMet patterns range at) (IsMet patterns range (at + 1)) at c.loop-at.answer
+          c.min-answer.result c.loop-at.invariant.least (omega (arith, c.min-answer.ensures, c.answer_at.ensures))
+          (λ i either. grind arith) (inr (omega arith, omega arith)) (λ i either. grind (arith, cases_lt));
+    }
+
+pub returns-then-bytes_of-range-clause-on : goal.returns-then-bytes_of-range-clause-on
+returns-then-bytes_of-range-clause-on c = λ more. record {
+  low = omega arith;
+  some = more;
+  ended = c.loop-at.invariant.ended;
+  longer = omega (arith, c.requires.range.long c.loop-at.at (omega arith) more, ap length c.bytes_of.ensures);
+}
+
+pub returns-then-bytes_of-range-clause-least : goal.returns-then-bytes_of-range-clause-least
+returns-then-bytes_of-range-clause-least c =
+    least_ended c.requires.ready c.requires.range c.loop-at.at c.loop-at.answer (omega arith) c.loop-at.invariant.ended
+    (returns-then-bytes_of-range-clause-on c) c.loop-at.invariant.least
+
+pub returns-clause-least : goal.returns-clause-least
+returns-clause-least c =
+    least_ended c.requires.ready c.requires.range c.loop-at.at c.loop-at.answer (omega arith) c.loop-at.invariant.ended
+    (λ more. absurd (omega arith)) c.loop-at.invariant.least

@@ -1,5 +1,5 @@
 use Rattle.std.proofs.Common.{◌≡◌, ◌-◌, true, length, take, drop, ap, arith, rules}
-use Rattle.virtiofs_map.proofs.xattrmap.trie.compare.LowBytesLemmas.{same_to_end, take_on}
+use Rattle.virtiofs_map.proofs.xattrmap.trie.compare.SameBytesLemmas.{same_to_end, take_on}
 use Rattle.virtiofs_map.proofs.xattrmap.trie.compare.are_long_same.Goals as goal
 
 pub loop-at-preserved : goal.loop-at-preserved
@@ -12,7 +12,7 @@ loop-at-preserved c =
 
 pub returns : goal.returns
 returns c = (
-  λ yes. same_to_end c.args.one.now c.args.other.now c.loop-at.at c.requires.lengths c.requires.long
+  λ yes. same_to_end 16 c.loop-at.at c.args.one.now c.args.other.now c.requires.lengths c.requires.long
       (omega (arith, c.loop-at-test.false)) c.loop-at.invariant.same (c.are_same_there-2.ensures.0 yes),
   λ same. c.are_same_there-2.ensures.1 (ap (λ l. take 16 (drop (length c.args.one.now - 16) l)) same),
 )

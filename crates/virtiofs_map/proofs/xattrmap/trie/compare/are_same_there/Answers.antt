@@ -1,7 +1,7 @@
 use Rattle.std.proofs.Common.{sym, ◌∙◌}
 use Rattle.std.proofs.Math.Facts.{Fits-lt-pow}
 use Rattle.std.proofs.lemmas.Bool.Decides.{Decides-eqb}
-use Rattle.virtiofs_map.proofs.xattrmap.trie.compare.LowBytesLemmas.{first_of_sixteen, same_sixteen, second_of_sixteen}
+use Rattle.virtiofs_map.proofs.xattrmap.trie.compare.SameBytesLemmas.{first_of_sixteen, same_sixteen, second_of_sixteen}
 use Rattle.virtiofs_map.proofs.xattrmap.trie.compare.are_same_there.Goals as goal
 
 pub returns-then-le_u64_at : goal.returns-then-le_u64_at

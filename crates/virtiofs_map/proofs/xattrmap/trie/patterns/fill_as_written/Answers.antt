@@ -1,6 +1,6 @@
-use Rattle.std.proofs.Common.{arith}
+use Rattle.std.proofs.Common.{arith, length}
 use Rattle.std.proofs.lemmas.List.Elements.{All-push}
-use Rattle.virtiofs_map.specs.KeyedParts.{IsKeyed}
+use Rattle.virtiofs_map.specs.TrieBuildParts.{IsReady}
 use Rattle.virtiofs_map.proofs.xattrmap.trie.PatternLemmas.{patterns_more, patterns_same, patterns_whole}
 use Rattle.virtiofs_map.proofs.xattrmap.trie.patterns.fill_as_written.Goals as goal
 
@@ -15,5 +15,5 @@ pub loop-place-preserved : goal.loop-place-preserved
 loop-place-preserved g c =
     rw c.in_ok-push.ensures.items (
       patterns_more _ _ _ _ _ _ c.loop-place.invariant.0 c.in-Some.ensures.found,
-      All-push IsKeyed _ _ c.loop-place.invariant.1 c.in-Some.ensures.keyed,
+      All-push (IsReady (length c.args.rules.now.bytes)) _ _ c.loop-place.invariant.1 c.in-Some.ensures.ready,
     )

@@ -6,7 +6,7 @@ use Rattle.virtiofs_map.proofs.xattrmap.trie.walk.first_place.Goals as goal
 pub returns-then-answer-eq-NO_ANSWER-clause-first : goal.returns-then-answer-eq-NO_ANSWER-clause-first
 returns-then-answer-eq-NO_ANSWER-clause-first c = λ side rules end labels bytes inside.
     sym (place_none side rules c.args.name.now c.walk-answer.result.0 inside.few
-    (c.walk-answer.ensures.passes side rules end labels bytes inside).walks.answers c.if-answer-eq-NO_ANSWER.true)
+    (c.walk-answer.ensures.passes side rules end labels bytes inside).answers c.if-answer-eq-NO_ANSWER.true)
 
 pub returns-then-answer-eq-NO_ANSWER-clause-fronts : goal.returns-then-answer-eq-NO_ANSWER-clause-fronts
 returns-then-answer-eq-NO_ANSWER-clause-fronts c = λ side rules end labels bytes inside.
@@ -21,7 +21,7 @@ returns-then-answer-eq-NO_ANSWER-clause-steps c = λ side rules end labels bytes
 pub returns-else-answer-eq-NO_ANSWER-clause-first : goal.returns-else-answer-eq-NO_ANSWER-clause-first
 returns-else-answer-eq-NO_ANSWER-clause-first c = λ side rules end labels bytes inside.
     sym (place_some side rules c.args.name.now c.walk-answer.result.0 inside.few
-    (c.walk-answer.ensures.passes side rules end labels bytes inside).walks.answers c.if-answer-eq-NO_ANSWER.false)
+    (c.walk-answer.ensures.passes side rules end labels bytes inside).answers c.if-answer-eq-NO_ANSWER.false)
 
 pub returns-else-answer-eq-NO_ANSWER-clause-fronts : goal.returns-else-answer-eq-NO_ANSWER-clause-fronts
 returns-else-answer-eq-NO_ANSWER-clause-fronts c = λ side rules end labels bytes inside.

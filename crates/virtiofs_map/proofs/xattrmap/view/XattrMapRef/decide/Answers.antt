@@ -7,10 +7,10 @@ use Rattle.virtiofs_map.proofs.xattrmap.view.XattrMapRef.decide.Goals as goal
 pub returns-clause-says : goal.returns-clause-says
 returns-clause-says c = λ rules is.
     c.decode.ensures c.args.side rules c.args.name.now is
-    (c.look_up-answer.ensures.passes c.args.side rules _ _ _ (c.trie.ensures rules is)).walks.answers
+    (c.look_up-answer.ensures.passes c.args.side rules _ _ _ (c.trie.ensures rules is)).answers
 
 pub returns-clause-before_zero : goal.returns-clause-before_zero
 returns-clause-before_zero c = λ rules is.
     (let passes = c.look_up-answer.ensures.passes c.args.side rules _ _ _ (c.trie.ensures rules is) in
     c.decode.ensures c.args.side rules (before_first is_zero c.args.name.now) is
-    (passes.walks.answers ∙ answer_of_list c.args.side rules c.args.name.now is.no_zero))
+    (passes.answers ∙ answer_of_list c.args.side rules c.args.name.now is.no_zero))

@@ -1,6 +1,6 @@
 use Rattle.std.proofs.Common.{sym, ◌∙◌, arith}
 use Rattle.virtiofs_map.specs.RuleParts.{rule_meant}
-use Rattle.virtiofs_map.proofs.xattrmap.KeptRuleLemmas.{differ_at, same_more, same_all}
+use Rattle.virtiofs_map.proofs.xattrmap.RuleEqualityLemmas.{differ_at, same_more, same_all}
 use Rattle.virtiofs_map.proofs.xattrmap.view.XattrMapRef.is_same.Goals as goal
 
 pub returns-then-not-is_same : goal.returns-then-not-is_same

@@ -10,22 +10,19 @@ returns-then-first_byte_of-byte c = λ first labels nodes bytes node has readabl
     (let width = c.width_of-width.ensures (placed first labels node) row in
     let below : c.loop-behind.behind < node.width = omega (arith, width, c.loop-behind-test.true) in
     let there =
-    child_there c.args.self.image.now first labels nodes has node bytes (c.base_of.result % 140737488355328) c.loop-behind.behind _ _
-    readable below
+    child_there has (c.base_of.result % 140737488355328) c.loop-behind.behind _ _ readable below
     (c.base_of.ensures.sparse (placed first labels node) row) refl c.in_ok-child.ensures in
     record {
+      place = node.base + c.loop-behind.behind;
       child = there.0;
-      is = there.3;
-      to = record {
-        place = node.base + c.loop-behind.behind;
-        leads = record {
-          from = omega arith;
-          below = omega (arith, below);
-          here = there.1;
-          first_byte = sym (c.first_byte_of.ensures (placed first labels there.0) there.3) ∙ c.if-first_byte_of-byte.true;
-          real = c.if-byte-eq0.false;
-        };
+      leads = record {
+        from = omega arith;
+        below = omega (arith, below);
+        here = there.1;
+        first_byte = sym (c.first_byte_of.ensures (placed first labels there.0) there.3) ∙ c.if-first_byte_of-byte.true;
+        real = c.if-byte-eq0.false;
       };
+      is = there.3;
     })
 
 pub loop-behind-preserved : goal.loop-behind-preserved
@@ -33,8 +30,7 @@ loop-behind-preserved c = λ first labels nodes bytes node has readable row k ch
     (let width = c.width_of-width.ensures (placed first labels node) row in
     let below : c.loop-behind.behind < node.width = omega (arith, width, c.loop-behind-test.true) in
     let there =
-    child_there c.args.self.image.now first labels nodes has node bytes (c.base_of.result % 140737488355328) c.loop-behind.behind _ _
-    readable below
+    child_there has (c.base_of.result % 140737488355328) c.loop-behind.behind _ _ readable below
     (c.base_of.ensures.sparse (placed first labels node) row) refl c.in_ok-child.ensures in
     elim (cases_lt k c.loop-behind.behind) [
       | inl low ↦ c.loop-behind.invariant first labels nodes bytes node has readable row k child low here first_byte
@@ -48,6 +44,6 @@ loop-behind-preserved c = λ first labels nodes bytes node has readable row k ch
 
 pub returns : goal.returns
 returns c = λ first labels nodes bytes node has readable row.
-    (nowhere nodes bytes node c.args.byte readable c.loop-behind.behind
+    (nowhere c.args.byte readable c.loop-behind.behind
     (omega (arith, c.width_of-width.ensures (placed first labels node) row, c.loop-behind-test.false))
     (c.loop-behind.invariant first labels nodes bytes node has readable row))
