@@ -4,9 +4,9 @@
 usage: daemon_options.py PROGRAM..
        daemon_options.py record DAEMON
 
-daemon_options.jsonl has a row for each list of words. `record` writes that file: it runs the daemon on each list of FORMS,
-and on each option that its --help names, as root and as nobody, who has the host's ids 100000 to 165535. It needs root,
-newuidmap and setpriv. A row has
+daemon_options.jsonl has a row for each list of words. `record` writes that file anew: it runs the daemon on the words of
+each row, as root and as nobody, who has the host's ids 100000 to 165535, and says which options of its --help no row has. A
+new row needs its words alone. It needs root, newuidmap and setpriv. A row has
 
   words    what stands after the folder that is shared and the socket
   takes    whether the daemon takes them: otherwise it ends at once with status 2
@@ -31,46 +31,7 @@ sys.dont_write_bytecode = True
 from tally import Tally
 
 TABLE = Path(__file__).resolve().with_suffix(".jsonl")
-MAP, RULES, RANGE = "map:0:100000:1", ":ok:all:::", ":0:100000:65536:"
-VALUES = {
-    "socket-group": "root nogroup-", "thread-pool-size": "2 x", "sandbox": "none NONE chroot other", "seccomp": "none KILL",
-    "inode-file-handles": "never fallback other", "cache": "auto NEVER none", "modcaps": "+sys_admin", "log-level": "off ERROR err", "rlimit-nofile": "4096 x",
-    "uid-map": f"{RANGE} x", "gid-map": f"{RANGE} x", "translate-uid": f"{MAP} x", "translate-gid": f"{MAP} x", "xattrmap": f"{RULES} x",
-    "migration-mode": "find-paths file-handles other", "migration-on-error": "abort guest-error other", "tag": f"t - {'t' * 36} {'t' * 37} {'é' * 18} {'é' * 19}",
-}
-OLDER = (
-    "xattr no_xattr readdirplus no_readdirplus writeback no_writeback allow_direct_io no_allow_direct_io announce_submounts no_announce_submounts killpriv_v2 no_killpriv_v2"
-    " posix_acl no_posix_acl security_label no_security_label no_posix_lock no_flock flock posix_lock timeout=1 xattrmap xattrmap= xattrmap=x xattrmap=:ok:all::: posix_acl=1"
-    " xattrmap=:prefix:all:a=b:c: source=/ source=/a=b source= source cache=none cache=auto cache=never cache=NONE cache loglevel=err loglevel=error loglevel=debug sandbox=none"
-    " sandbox=chroot sandbox=namespace modcaps=+chown modcaps=+a=b xattr, ,xattr ,, no_flock,no_posix_lock xattr,bad xattrmap=:ok:all:::,xattrmap=x"
-).split() + ["", " xattr", "xattr ", "-xattr", "-", "=", "=x"]
-FORMS = [it.split(" ") for it in (
-    "-fd|-df|-fdf|-fo xattr|-dfo xattrmap=:ok:all:::|-foxattr|-foxattrmap=x|-do=posix_acl|-doposix_acl|-oxattr|-o=xattr|-o=xattrmap=:ok:all:::|-oxattrmap=x|-o=|-do=|-o==xattr|-o|-fo|-do -f|-o -f|-oo xattr|-oo|-of"
-    "|--o xattr|-o xattr -o bad|-oxattr -o no_xattr|-xattr|-x|-fx|-fdx|-d=1|-d=|-f1|-df=x|-f-d|-d--xattr|-hf|-fV|-h=x|-fh=x|-Vx|-h|-V|--help|--version|--help=x|--version=x|-o-x|-o=-x|-fo-x|-fo-xattr,xattr|-h --nosuch|-h -x|-hxyz|-hV|--help -o|-V word|--version --tag=|--nosuch -h|word -h|-f -h=x|-|-- |---xattr|word|word --xattr|--xattr word|-f word"
-    "|--sandbox none word|-o xattr word|--xattr -|--xatt|--XATTR|--posix_acl|--Translate-uid map:0:100000:1|--translate_uid map:0:100000:1|--tag -x|--tag=-x|--tag --xattr|--tag=--xattr|--tag -- |--modcaps -chown|--modcaps=-chown"
-    "|--fd -3|--thread-pool-size -1|--thread-pool-size=-1|--thread-pool-size=+1|--inode-file-handles never|--log-level --xattr|--translate-uid map:0:100000:1 map:1:100001:1|--translate-uid map:0:100000:1,map:1:100001:1"
-    "|--translate-uid map:0:100000:1 --translate-uid map:1:100001:1|--translate-uid map:0:100000:1 --translate-uid x|--translate-uid x --translate-uid map:0:100000:1|--posix-acl --translate-gid map:0:100000:1"
-    "|--translate-uid map:0:100000:1 --posix-acl|-o posix_acl --translate-uid map:0:100000:1|-doposix_acl --translate-gid map:0:100000:1|--posix-acl -o no_posix_acl --translate-uid map:0:100000:1|--posix-acl --xattr --xattr --posix-acl"
-    "|-o posix_acl,no_posix_acl --translate-uid map:0:100000:1|--xattrmap :ok:all::: --xattrmap :bad:all:::|--xattrmap :ok:all::: --xattrmap x|-o xattrmap=x --xattrmap :ok:all:::"
-    "|--announce-submounts --no-announce-submounts|--no-announce-submounts --announce-submounts|--killpriv-v2 --no-killpriv-v2|-d -f -d|--sandbox none --sandbox chroot|--sandbox chroot --sandbox none|--sandbox chroot -o sandbox=namespace"
-    "|--sandbox x --sandbox none|-o sandbox=namespace --sandbox chroot|-o sandbox=chroot --sandbox none|-o sandbox=chroot,sandbox=namespace|-fosandbox=chroot|-fosandbox=chroot -o sandbox=namespace|--sandbox none -o sandbox=namespace"
-    "|--sandbox CHROOT|--uid-map :0:100000:65536: --gid-map :0:100000:65536:|--uid-map :0:100000:65536: --sandbox none|--gid-map :0:100000:65536: --sandbox none|--uid-map :0:100000:65536: --sandbox none -o sandbox=namespace"
-    "|--uid-map :0:65534:1: --gid-map :0:65534:1:|--uid-map :0:65534:1: --uid-map :1:100000:10: --gid-map :0:65534:1:|--uid-map :0:100000:65537:|--uid-map :0:5:1:|--uid-map :5:65534:0: --gid-map :65534:65534:0:|--uid-map :1:100000:65535: --gid-map :1:100000:65535:|--uid-map :0:100000:10: --sandbox chroot"
-    "|--fd 3|--fd 3 --socket x|--socket x|--socket-path x|--socket-group root --fd 3|--socket-group root --print-capabilities|--print-capabilities|--shared-dir /|--shared-dir / --shared-dir /|--syslog=on"
-).split("|")] + [["--tag", ""], ["--tag="], ["--xattrmap", ""], ["--xattrmap="], ["--translate-uid="], ["--sandbox="], ["--modcaps="], ["--socket="], ["--shared-dir="], ["--inode-file-handles="], ["--xattr="], ["--xattr=true"], [""], ["--xattr", ""]]
 AS = {"root": [], "nobody": ["setpriv", "--reuid=65534", "--regid=65534", "--clear-groups"]}
-
-
-def forms_of(daemon):
-    """The lists of words that are tried on it."""
-    helped = subprocess.run([daemon, "--help"], capture_output=True, text=True, check=True).stdout
-    forms = FORMS + [["-o", it] for it in OLDER] + [[f"-fo{it}"] for it in OLDER[:24]]
-    for names, value in re.findall(r"^ +(-[a-z]|(?:-[a-zA-Z], )?--[a-z][a-z0-9-]+)(?:[ =](<\w+>))?$", helped, re.M):
-        for name in names.split(", "):
-            forms += [[name], *([] if value else [[f"{name}=x"]])]
-            for it in VALUES.get(name[2:], "").split() if value else []:
-                forms += [[f"{name}={it}"], [name, it]]
-    return list({tuple(it): None for it in forms if "--" not in it})
 
 
 def ended(daemon, user, words, folder):
@@ -104,7 +65,11 @@ def record(daemon):
     with tempfile.TemporaryDirectory() as room:
         os.chmod(room, 0o755)
         daemon = shutil.copy(daemon, room)
-        for words in forms_of(daemon):
+        helped = subprocess.run([daemon, "--help"], capture_output=True, text=True, check=True).stdout
+        given = [json.loads(line)["words"] for line in TABLE.read_text().splitlines()]
+        tried = {word.partition("=")[0] for words in given for word in words}
+        print("no row has", *sorted({*re.findall(r"--[a-z][a-z0-9-]+", helped)} - tried))
+        for words in given:
             row = {"words": words}
             for user in AS:
                 os.mkdir(folder := f"{room}/{user}")

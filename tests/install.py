@@ -24,7 +24,7 @@ VERSION = re.search(r'^version = "(.+)"$', (TOP / "bindings/rust/Cargo.toml").re
 # What each program is asked, and what it answers.
 ASKED = {
     "virtiofs_mapcheck": ("ids map:0:1000:10 ask guest=5 host=1005", "1005\n5\n"),
-    "virtiofs_mapaudit": ("--version", "virtiofs_mapaudit 3.2.2\n"),
+    "virtiofs_mapaudit": ("--version", "virtiofs_mapaudit 3.2.3\n"),
 }
 COMPLETED = """source "$1"; name=${1##*/}; shift; COMP_WORDS=("$name" "$@"); COMP_CWORD=$#
 "_$name" 2>/dev/null; echo "${COMPREPLY[@]}" """

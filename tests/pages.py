@@ -7,7 +7,7 @@ The name of a program is that of its file up to the dot, and its page is docs/NA
 and it has the forms or options that each build tells. Each build runs the examples of the manual pages. In README.md and
 the guides a block of `sh` or `console` before one of `text` is run at the top, by each build if it begins with a program's
 name, and `text` is all that is written. With PID it is for a running daemon. The values in a block of no language stand in
-the next command too. Links lead somewhere, and named files are there. The last line is 'N passed, N failed'.
+a command of the page too. Links lead somewhere, and named files are there. The last line is 'N passed, N failed'.
 """
 import os
 import re
@@ -60,12 +60,12 @@ def examples(page):
 def commands(tally, file):
     """Each command of a page in Markdown that has an output below it, or a PID in it."""
     blocks = re.findall(r"^```(\w*)\n(.*?)^```$", (TOP / file).read_text("utf-8"), re.M | re.S)
-    for at, ((kind, text), (after, output)) in enumerate(zip(blocks, [*blocks[1:], ("", "")])):
+    for (kind, text), (after, output) in zip(blocks, [*blocks[1:], ("", "")]):
         if kind in ("sh", "console") and (after == "text" or "PID" in text):
             yield text, output if after == "text" else None
         elif not kind and text.startswith("--"):
-            checked = next((it for kind, it in blocks[at:] if kind == "sh"), "").split()
-            tally.see(f"values of the next command, {file}", [it for it in text.split() if ":" in it and it not in checked])
+            checked = " ".join(it for kind, it in blocks if kind == "sh").split()
+            tally.see(f"values of a command, {file}", [it for it in text.split() if ":" in it and it not in checked])
 
 
 def differs(command, wanted, environment):

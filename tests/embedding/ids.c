@@ -69,17 +69,14 @@ static const struct texts_row {
 } texts_rows[] = {
     { { "FOO-\xc4\xb0r:1" }, 1, "foo-\xc4\xb0r", FAULT(PREFIX, .place = 0) },
     { { NULL }, 1, "", FAULT(LENGTH, .expected = 1) },
-    { { "forbid-guest:1:2:3" }, 1, "", FAULT(LENGTH, .expected = 2, .seen = 3) },
     { { "map:1:2:3:" }, 1, "", FAULT(VALUE, .number = VIRTIOFS_NUMBER_EMPTY) },
     { { "foo:x" }, 1, "x", FAULT(VALUE, .number = VIRTIOFS_NUMBER_DIGIT) },
     { { "map:4294967296:0:1" }, 1, "4294967296", FAULT(VALUE, .number = VIRTIOFS_NUMBER_LARGE) },
     { { "map:\xff:0:1" }, 1, "", FAULT(UTF8, .place = 0) },
     { { NULL, "foo:1" }, 2, "", FAULT(LENGTH, .expected = 1) },
     { { "map:0:1:2", NULL }, 2, "", FAULT(LENGTH, .place = 1, .expected = 1) },
-    { { "map:0:1:2", "foo:1", NULL }, 3, "foo", FAULT(PREFIX, .place = 1) },
     { { "guest:0:1:2", "guest:1:1:2", NULL }, 3, "", FAULT(LENGTH, .place = 2, .expected = 1) },
     { { "guest:0:1:2", "guest:1:1:2", "map:1:x" }, 3, "x", FAULT(VALUE, .place = 2, .number = VIRTIOFS_NUMBER_DIGIT) },
-    { { "guest:0:1:2", "guest:1:1:2", "map:\xff:0:1" }, 3, "", FAULT(UTF8, .place = 2) },
     { { "guest:0:1:2", "guest:1:5:2" }, 2, "", FAULT(INTERSECTS, .place = 1, .spec = { 0, 1, 5, 2 }) },
 };
 

@@ -1,6 +1,6 @@
 /*
  * Texts of 16 MiB, 200,000 rules and 200,000 specifications: each is read, or refused with its own fault. The texts are
- * those of crates/virtiofs_map_tests/src/hostile; there a build that is not optimized reads smaller ones.
+ * those of crates/virtiofs_map_tests/src/hostile.rt; there a build that is not optimized reads smaller ones.
  */
 #include "see.h"
 
@@ -144,9 +144,11 @@ int main(void)
     test_large_texts();
     test_large_key();
     test_many_rules();
-    for (int is_falling = 0; is_falling < 2; is_falling++) {
-        for (uint32_t i = 0; i < MANY; i++)
-            specs[is_falling ? MANY - 1 - i : i] = (struct virtiofs_spec){ VIRTIOFS_MAP, 10 * i, 5000000 + 10 * i, 5 };
+    /* (they rise, fall, and stand all over the place) */
+    static const uint32_t steps[] = { 1, MANY - 1, 12361 };
+    for (size_t order = 0; order < COUNT(steps); order++) {
+        for (uint32_t i = 0, at = 0; i < MANY; i++, at = (at + steps[order]) % MANY)
+            specs[at] = (struct virtiofs_spec){ VIRTIOFS_MAP, 10 * i, 5000000 + 10 * i, 5 };
         test_many_specifications();
         test_many_in_decisions();
     }

@@ -21,7 +21,9 @@ pub ChangesList-done : (users groups : List IdMap) (direction : Direction) (room
     → Accepted users → Accepted groups → AreBytes old → IsTranslated users groups direction old new
     → GoesAcross users groups direction room old → ChangesList users groups direction room old new (Ok tt)
 ChangesList-done users groups direction room old new users_accepted groups_accepted bytes translated goes =
-    search (rules, GoesAcross-no_fault, ComesBack-mapped)
+    let none = λ (error : AclError).
+    GoesAcross-no_fault users groups direction old users_accepted groups_accepted room error goes in
+    search (rules, none, ComesBack-mapped)
 
 pub ChangesList-refused : (users groups : List IdMap) (direction : Direction) (room : ℕ) (value : List ℕ)
     (error : AclError) → Accepted users → Accepted groups → HasAclFault users groups direction room value error
@@ -35,7 +37,8 @@ pub ChangesRoot-done : (users : List IdMap) (direction : Direction) (old new : L
     → RootBecomes users direction old new → KeepsFront old new → RootGoesAcross users direction old
     → ChangesRoot users direction old new (Ok tt)
 ChangesRoot-done users direction old new accepted bytes root front goes =
-    search (rules, RootGoesAcross-no_fault, RootComesBack-mapped)
+    let none = λ (error : CapabilityError). RootGoesAcross-no_fault users direction old accepted error goes in
+    search (rules, none, RootComesBack-mapped)
 
 pub ChangesRoot-refused : (users : List IdMap) (direction : Direction) (value : List ℕ) (error : CapabilityError)
     → Accepted users → HasCapabilityFault users direction value error

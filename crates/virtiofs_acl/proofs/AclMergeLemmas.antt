@@ -1,6 +1,6 @@
 -- Entries that would merge: what stands in the room, in what order, and why neighbours are enough.
 use Rattle.std.proofs.Common.{◌≡◌, ◌≢◌, ◌⊎◌, inl, inr, ℕ, ◌+◌, ◌-◌, ◌*◌, ◌<◌, ◌≤◌, List, [], ◌∷◌, ◌++◌, length, get_or}
-use Rattle.std.proofs.Common.{All, Contains, IsPermutation, Option, Some, None, IsSomeAnd, IfSome, IfNone, false, sym}
+use Rattle.std.proofs.Common.{All, Contains, IsPermutation, Option, Some, None, IsSomeAnd, IfSome, IfNone, false, refl, sym}
 use Rattle.std.proofs.Common.{ap, ◌∙◌, subst, arith, rules}
 use Rattle.std.specs.Cmp.{IsTotalOrder}
 use Rattle.std.specs.Ordering.{nat_cmp, ordering_then, is_lt}
@@ -30,44 +30,42 @@ pub Accepted-for : (users groups : List IdMap) (tag : ℕ) → Accepted users �
     → Accepted (specs_for users groups tag)
 Accepted-for users groups tag users_accepted groups_accepted = search rules
 
-IsPlaced-more : (users groups : List IdMap) (direction : Direction) (value : List ℕ) (count : ℕ) (one : EntryRoom)
-    → IsPlaced users groups direction value count one → IsPlaced users groups direction value (count + 1) one
-IsPlaced-more users groups direction value count one placed = search rules
+module _ (users groups : List IdMap) (direction : Direction) (value : List ℕ) where
+  IsPlaced-more : (count : ℕ) (one : EntryRoom) → IsPlaced users groups direction value count one
+      → IsPlaced users groups direction value (count + 1) one
+  IsPlaced-more count one placed = search rules
 
-pub Places-pass : (users groups : List IdMap) (direction : Direction) (value : List ℕ) (count : ℕ)
-    (placed : List EntryRoom) → Places users groups direction value count placed → ¬ HasId (tag_of value count)
-    → Places users groups direction value (count + 1) placed
-Places-pass users groups direction value count placed places without =
-    search (rules, All-weaker, IsPlaced-more, cases_eq)
+  pub Places-pass : (count : ℕ) (placed : List EntryRoom) → Places users groups direction value count placed
+      → ¬ HasId (tag_of value count) → Places users groups direction value (count + 1) placed
+  Places-pass count placed places without = search (rules, All-weaker, IsPlaced-more, cases_eq)
 
-pub Places-push : (users groups : List IdMap) (direction : Direction) (value : List ℕ) (count : ℕ)
-    (placed : List EntryRoom) (one : EntryRoom) → Places users groups direction value count placed → one.entry ≡ count
-    → HasId one.tag → one.tag ≡ tag_of value count
-    → Becomes (specs_for users groups (tag_of value count)) direction (id_of value count) (Some one.id)
-    → Places users groups direction value (count + 1) (placed ++ one ∷ [])
-Places-push users groups direction value count placed one places is has_id tag becomes = record {
-  right = All-push (IsPlaced users groups direction value (count + 1)) placed one
-      (All-weaker (IsPlaced users groups direction value count) (IsPlaced users groups direction value (count + 1))
-      (IsPlaced-more users groups direction value count) placed places.right)
-      (record { is_entry = omega arith; has_id = has_id; tag = rw is tag; becomes = rw is becomes });
-  each = λ k below has_id.
-      elim (cases_eq k count) [
-        | inl same ↦ (one, Contains-push placed one, is ∙ sym same)
-        | inr other ↦
-            let (found, listed, is_k) = places.each k (omega arith) has_id in
-            (found, Contains-append_left placed (one ∷ []) found listed, is_k)
-      ];
-}
+  pub Places-push : (count : ℕ) (placed : List EntryRoom) (one : EntryRoom)
+      → Places users groups direction value count placed → one.entry ≡ count → HasId one.tag
+      → one.tag ≡ tag_of value count
+      → Becomes (specs_for users groups (tag_of value count)) direction (id_of value count) (Some one.id)
+      → Places users groups direction value (count + 1) (placed ++ one ∷ [])
+  Places-push count placed one places is has_id tag becomes = record {
+    right = All-push (IsPlaced users groups direction value (count + 1)) placed one
+        (All-weaker (IsPlaced users groups direction value count) (IsPlaced users groups direction value (count + 1))
+        (IsPlaced-more count) placed places.right)
+        (record { is_entry = omega arith; has_id = has_id; tag = rw is tag; becomes = rw is becomes });
+    each = λ k below has_id.
+        elim (cases_eq k count) [
+          | inl same ↦ (one, Contains-push placed one, is ∙ sym same)
+          | inr other ↦
+              let (found, listed, is_k) = places.each k (omega arith) has_id in
+              (found, Contains-append_left placed (one ∷ []) found listed, is_k)
+        ];
+  }
 
-pub Places-permutation : (users groups : List IdMap) (direction : Direction) (value : List ℕ) (count : ℕ)
-    (placed sorted : List EntryRoom) → IsPermutation placed sorted → Places users groups direction value count placed
-    → Places users groups direction value count sorted
-Places-permutation users groups direction value count placed sorted permutation places = record {
-  right = All-permutation (IsPlaced users groups direction value count) placed sorted permutation places.right;
-  each = λ k below has_id.
-      let (found, listed, is_k) = places.each k below has_id in
-      (found, Contains-permutation placed sorted found permutation listed, is_k);
-}
+  pub Places-permutation : (count : ℕ) (placed sorted : List EntryRoom) → IsPermutation placed sorted
+      → Places users groups direction value count placed → Places users groups direction value count sorted
+  Places-permutation count placed sorted permutation places = record {
+    right = All-permutation (IsPlaced users groups direction value count) placed sorted permutation places.right;
+    each = λ k below has_id.
+        let (found, listed, is_k) = places.each k below has_id in
+        (found, Contains-permutation placed sorted found permutation listed, is_k);
+  }
 
 -- whatever ids are looked up in, the room holds entries of the value alone
 pub entries-more : (count : ℕ) (placed : List EntryRoom) → All (λ one. one.entry < count) placed
@@ -157,30 +155,6 @@ HasClash-here value placed i k e order from below clashes is = search (rules, Co
 
 -- ---- what was found is the first entry that merges
 
-placed_merge : (users groups : List IdMap) (direction : Direction) (value : List ℕ) (count k : ℕ)
-    (placed : List EntryRoom) → Places users groups direction value count placed → HasClash value placed k
-    → MergesEarlier users groups direction value k
-placed_merge users groups direction value count k placed places clash =
-    let one = All-contains (IsPlaced users groups direction value count) placed clash.one places.right clash.listed in
-    let other =
-    All-contains (IsPlaced users groups direction value count) placed clash.other places.right clash.listed_too in
-    let clashes = clash.clashes in
-    let tag : tag_of value clash.one.entry ≡ tag_of value clash.other.entry = sym one.tag ∙ clashes.tag ∙ other.tag in
-    subst (λ (n : ℕ). MergesEarlier users groups direction value n) clash.is (record {
-      has_id = rw (← other.tag) other.has_id;
-      earlier = clash.one.entry;
-      before = earlier (cases_eq clash.one.entry clash.other.entry);
-      same_tag = tag;
-      differ = clashes.differ;
-      both = clash.other.id;
-      one = rw (← tag) (rw clashes.id at one.becomes);
-      other = other.becomes;
-    }) where
-      earlier : (clash.one.entry ≡ clash.other.entry) ⊎ (clash.one.entry ≢ clash.other.entry)
-          → clash.one.entry < clash.other.entry
-      earlier (inl same) = absurd (clash.clashes.differ (ap (λ (n : ℕ). id_of value n) same))
-      earlier (inr other) = omega (arith, clash.order)
-
 -- of two that clash, the one of the lesser number stands first
 clash_found : (value : List ℕ) (placed : List EntryRoom) (found : Option ℕ) (one other : EntryRoom) → AreInOrder placed
     → MeetsClashes value placed (length placed) found → Contains placed one → Contains placed other
@@ -204,66 +178,84 @@ clash_found value placed found one other order meets (i, one_in, one_at) (j, oth
       turned (inr (inl a)) = omega (arith, clashes.id)
       turned (inr (inr a)) = omega arith
 
-merge_placed : (users groups : List IdMap) (direction : Direction) (value : List ℕ) (count k : ℕ)
-    (placed : List EntryRoom) (found : Option ℕ) → Accepted users → Accepted groups → AreInOrder placed
-    → Places users groups direction value count placed → MeetsClashes value placed (length placed) found → k < count
-    → MergesEarlier users groups direction value k → IsSomeAnd found (λ m. m ≤ k)
-merge_placed users groups direction value count k placed found users_accepted groups_accepted order places meets below
-    merges =
-    stand (places.each merges.earlier (omega (arith, merges.before)) (rw merges.same_tag merges.has_id))
-    (places.each k below merges.has_id) where
-      one_value : (tag n : ℕ) (a b : ℕ) → Becomes (specs_for users groups tag) direction n (Some a)
-          → Becomes (specs_for users groups tag) direction n (Some b) → a ≡ b
-      one_value tag n a b =
-          Becomes-one (specs_for users groups tag) direction n a b
-          (Accepted-for users groups tag users_accepted groups_accepted)
+module _ (users groups : List IdMap) (direction : Direction) (value : List ℕ) (count : ℕ) (placed : List EntryRoom)
+    (found : Option ℕ) (users_accepted : Accepted users) (groups_accepted : Accepted groups)
+    (order : AreInOrder placed) (places : Places users groups direction value count placed)
+    (meets : MeetsClashes value placed (length placed) found) where
+  -- what is listed is placed
+  is_placed : (one : EntryRoom) → Contains placed one → IsPlaced users groups direction value count one
+  is_placed one = All-contains (IsPlaced users groups direction value count) placed one places.right
 
-      stand : (one : EntryRoom) × Contains placed one × (one.entry ≡ merges.earlier)
-          → (other : EntryRoom) × Contains placed other × (other.entry ≡ k) → IsSomeAnd found (λ m. m ≤ k)
-      stand (one, listed, is) (other, listed_too, is_too) =
-          let first = All-contains (IsPlaced users groups direction value count) placed one places.right listed in
-          let second =
-          All-contains (IsPlaced users groups direction value count) placed other places.right listed_too in
-          let first_id : one.id ≡ merges.both =
-          one_value (tag_of value k) (id_of value merges.earlier) one.id merges.both
-          (rw (is, merges.same_tag) at first.becomes) merges.one in
-          let second_id : other.id ≡ merges.both =
-          one_value (tag_of value k) (id_of value k) other.id merges.both (rw is_too at second.becomes)
-          merges.other in
-          let clashes : Clashes value one other = record {
-            tag = first.tag ∙ ap (λ (n : ℕ). tag_of value n) is ∙ merges.same_tag
-                ∙ sym (ap (λ (n : ℕ). tag_of value n) is_too) ∙ sym second.tag;
-            id = first_id ∙ sym second_id;
-            differ =
-                λ same. merges.differ
-                (sym (ap (λ (n : ℕ). id_of value n) is) ∙ same ∙ ap (λ (n : ℕ). id_of value n) is_too);
-          } in
-          rw is_too at (clash_found value placed found one other order meets listed listed_too clashes
-          (omega (arith, merges.before)))
+  placed_merge : (k : ℕ) → HasClash value placed k → MergesEarlier users groups direction value k
+  placed_merge k clash =
+      let one = is_placed clash.one clash.listed in
+      let other = is_placed clash.other clash.listed_too in
+      let clashes = clash.clashes in
+      let tag : tag_of value clash.one.entry ≡ tag_of value clash.other.entry =
+      sym one.tag ∙ clashes.tag ∙ other.tag in
+      subst (λ (n : ℕ). MergesEarlier users groups direction value n) clash.is (record {
+        has_id = rw (← other.tag) other.has_id;
+        earlier = clash.one.entry;
+        before = earlier (cases_eq clash.one.entry clash.other.entry);
+        same_tag = tag;
+        differ = clashes.differ;
+        both = clash.other.id;
+        one = rw (← tag) (rw clashes.id at one.becomes);
+        other = other.becomes;
+      }) where
+        earlier : (clash.one.entry ≡ clash.other.entry) ⊎ (clash.one.entry ≢ clash.other.entry)
+            → clash.one.entry < clash.other.entry
+        earlier (inl same) = absurd (clash.clashes.differ (ap (λ (n : ℕ). id_of value n) same))
+        earlier (inr other) = omega (arith, clash.order)
 
-pub none_found : (users groups : List IdMap) (direction : Direction) (value : List ℕ) (count : ℕ)
-    (placed : List EntryRoom) (found : Option ℕ) → Accepted users → Accepted groups → AreInOrder placed
-    → Places users groups direction value count placed → MeetsClashes value placed (length placed) found
-    → IfNone found (NoneMerges users groups direction value count)
-none_found users groups direction value count placed None users_accepted groups_accepted order places meets =
-    λ k below merges. absurd
-    (merge_placed users groups direction value count k placed None users_accepted groups_accepted order places meets
-    below merges)
-none_found users groups direction value count placed (Some k) users_accepted groups_accepted order places meets = tt
+  merge_placed : (k : ℕ) → k < count → MergesEarlier users groups direction value k → IsSomeAnd found (λ m. m ≤ k)
+  merge_placed k below merges =
+      stand (places.each merges.earlier (omega (arith, merges.before)) (rw merges.same_tag merges.has_id))
+      (places.each k below merges.has_id) where
+        one_value : (n a b : ℕ) → Becomes (specs_for users groups (tag_of value k)) direction n (Some a)
+            → Becomes (specs_for users groups (tag_of value k)) direction n (Some b) → a ≡ b
+        one_value n a b =
+            Becomes-one _ direction n a b (Accepted-for users groups (tag_of value k) users_accepted groups_accepted)
 
-pub first_found : (users groups : List IdMap) (direction : Direction) (value : List ℕ) (count : ℕ)
-    (placed : List EntryRoom) (found : Option ℕ) → Accepted users → Accepted groups → AreInOrder placed
-    → Places users groups direction value count placed → MeetsClashes value placed (length placed) found
-    → IfSome found (HasClash value placed) → IfSome found (IsFirstToMerge users groups direction value count)
-first_found users groups direction value count placed None users_accepted groups_accepted order places meets clash = tt
-first_found users groups direction value count placed (Some k) users_accepted groups_accepted order places meets clash =
-    let other =
-    All-contains (IsPlaced users groups direction value count) placed clash.other places.right clash.listed_too in
-    let below : k < count = omega (arith, clash.is, other.is_entry) in
-    record {
-      is_entry = below;
-      merges = placed_merge users groups direction value count k placed places clash;
-      before = λ j earlier merges. let least : k ≤ j =
-          merge_placed users groups direction value count j placed (Some k) users_accepted groups_accepted order places
-          meets (omega arith) merges in omega arith;
-    }
+        stand : (one : EntryRoom) × Contains placed one × (one.entry ≡ merges.earlier)
+            → (other : EntryRoom) × Contains placed other × (other.entry ≡ k) → IsSomeAnd found (λ m. m ≤ k)
+        stand (one, listed, is) (other, listed_too, is_too) =
+            let first = is_placed one listed in
+            let second = is_placed other listed_too in
+            let first_id : one.id ≡ merges.both =
+            one_value (id_of value merges.earlier) one.id merges.both (rw (is, merges.same_tag) at first.becomes)
+            merges.one in
+            let second_id : other.id ≡ merges.both =
+            one_value (id_of value k) other.id merges.both (rw is_too at second.becomes) merges.other in
+            let clashes : Clashes value one other = record {
+              tag = first.tag ∙ ap (λ (n : ℕ). tag_of value n) is ∙ merges.same_tag
+                  ∙ sym (ap (λ (n : ℕ). tag_of value n) is_too) ∙ sym second.tag;
+              id = first_id ∙ sym second_id;
+              differ =
+                  λ same. merges.differ
+                  (sym (ap (λ (n : ℕ). id_of value n) is) ∙ same ∙ ap (λ (n : ℕ). id_of value n) is_too);
+            } in
+            rw is_too at (clash_found value placed found one other order meets listed listed_too clashes
+            (omega (arith, merges.before)))
+
+  pub none_found : IfNone found (NoneMerges users groups direction value count)
+  none_found = none found refl where
+    none : (o : Option ℕ) → found ≡ o → IfNone o (NoneMerges users groups direction value count)
+    none None is = λ k below merges. rw is at (merge_placed k below merges)
+    none (Some m) is = tt
+
+  pub first_found : IfSome found (HasClash value placed)
+      → IfSome found (IsFirstToMerge users groups direction value count)
+  first_found = first found refl where
+    first : (o : Option ℕ) → found ≡ o → IfSome o (HasClash value placed)
+        → IfSome o (IsFirstToMerge users groups direction value count)
+    first None is clash = tt
+    first (Some m) is clash =
+        let other = is_placed clash.other clash.listed_too in
+        let below : m < count = omega (arith, clash.is, other.is_entry) in
+        record {
+          is_entry = below;
+          merges = placed_merge m clash;
+          before = λ j earlier merges.
+              let least : m ≤ j = rw is at (merge_placed j (omega arith) merges) in omega arith;
+        }

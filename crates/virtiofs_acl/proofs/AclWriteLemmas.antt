@@ -23,64 +23,61 @@ same_four old new place same = search rules
 still_there : (value : List ℕ) (count place : ℕ) → 4 + 8 * count ≤ place → ¬ IsIdByte value count place
 still_there value count place from byte = omega (arith, byte.is_entry, byte.before)
 
-pub IsWritten-tag : (users groups : List IdMap) (direction : Direction) (old new : List ℕ) (k : ℕ)
-    → IsWritten users groups direction old new k → tag_of new k ≡ tag_of old k
-IsWritten-tag users groups direction old new k written = search (rules, same_two, still_there)
-
-pub IsWritten-id : (users groups : List IdMap) (direction : Direction) (old new : List ℕ) (k : ℕ)
-    → IsWritten users groups direction old new k → id_of new k ≡ id_of old k
-IsWritten-id users groups direction old new k written =
-    same_four old new (8 + 8 * k) (λ n below. written.rest (8 + 8 * k + n) (still_there old k _ (omega arith)))
-
 -- a byte of an id below k is one below k + 1
 IsIdByte-more : (value : List ℕ) (k place : ℕ) → IsIdByte value k place → IsIdByte value (k + 1) place
 IsIdByte-more value k place byte = search rules
 
-pub IsWritten-pass : (users groups : List IdMap) (direction : Direction) (old new : List ℕ) (k : ℕ)
-    → IsWritten users groups direction old new k → ¬ HasId (tag_of old k)
-    → IsWritten users groups direction old new (k + 1)
-IsWritten-pass users groups direction old new k written without = search (rules, cases_eq, IsIdByte-more)
+module _ (users groups : List IdMap) (direction : Direction) (old : List ℕ) where
+  pub IsWritten-tag : (new : List ℕ) (k : ℕ) → IsWritten users groups direction old new k → tag_of new k ≡ tag_of old k
+  IsWritten-tag new k written = search (rules, same_two, still_there)
 
-pub IsWritten-more : (users groups : List IdMap) (direction : Direction) (old now new : List ℕ) (k n : ℕ)
-    → IsWritten users groups direction old now k → HasId (tag_of old k) → length new ≡ length now
-    → four_bytes new (8 + 8 * k) ≡ n
-    → ((other : ℕ) → (other < 8 + 8 * k) ⊎ (8 + 8 * k + 4 ≤ other) → get_or new other 0 ≡ get_or now other 0)
-    → Becomes (specs_for users groups (tag_of old k)) direction (id_of old k) (Some n)
-    → IsWritten users groups direction old new (k + 1)
-IsWritten-more users groups direction old now new k n written has_id size number others becomes = record {
-  size = size ∙ written.size;
-  written = λ j below has. elim (cases_eq j k) [ inl same ↦ last j same | inr other ↦ before j (omega arith) has ];
-  rest = λ place no_id. others place (outside place no_id)
-      ∙ written.rest place (λ byte. no_id (IsIdByte-more old k place byte));
-} where
-  last : (j : ℕ) → j ≡ k → Becomes (specs_for users groups (tag_of old j)) direction (id_of old j) (Some (id_of new j))
-  last j same =
-      subst (λ (m : ℕ). Becomes (specs_for users groups (tag_of old m)) direction (id_of old m) (Some (id_of new m)))
-      (sym same) (rw number becomes)
+  pub IsWritten-id : (new : List ℕ) (k : ℕ) → IsWritten users groups direction old new k → id_of new k ≡ id_of old k
+  IsWritten-id new k written =
+      same_four old new (8 + 8 * k) (λ n below. written.rest (8 + 8 * k + n) (still_there old k _ (omega arith)))
 
-  before : (j : ℕ) → j < k → HasId (tag_of old j)
-      → Becomes (specs_for users groups (tag_of old j)) direction (id_of old j) (Some (id_of new j))
-  before j below has =
-      let kept : id_of new j ≡ id_of now j =
-      same_four now new (8 + 8 * j) (λ m under. others (8 + 8 * j + m) (inl (omega arith))) in
-      rw kept (written.written j below has)
+  pub IsWritten-pass : (new : List ℕ) (k : ℕ) → IsWritten users groups direction old new k → ¬ HasId (tag_of old k)
+      → IsWritten users groups direction old new (k + 1)
+  IsWritten-pass new k written without = search (rules, cases_eq, IsIdByte-more)
 
-  outside : (place : ℕ) → ¬ IsIdByte old (k + 1) place → (place < 8 + 8 * k) ⊎ (8 + 8 * k + 4 ≤ place)
-  outside place no_id =
-      elim (cases_lt place (8 + 8 * k)) [
-        | inl below ↦ inl below
-        | inr from ↦
-            elim (cases_lt place (8 + 8 * k + 4)) [
-              | inl inside ↦ search (rules, before)
-              | inr past ↦ inr past
-            ]
-      ]
+  pub IsWritten-more : (now new : List ℕ) (k n : ℕ) → IsWritten users groups direction old now k → HasId (tag_of old k)
+      → length new ≡ length now → four_bytes new (8 + 8 * k) ≡ n
+      → ((other : ℕ) → (other < 8 + 8 * k) ⊎ (8 + 8 * k + 4 ≤ other) → get_or new other 0 ≡ get_or now other 0)
+      → Becomes (specs_for users groups (tag_of old k)) direction (id_of old k) (Some n)
+      → IsWritten users groups direction old new (k + 1)
+  IsWritten-more now new k n written has_id size number others becomes = record {
+    size = size ∙ written.size;
+    written = λ j below has. elim (cases_eq j k) [ inl same ↦ last j same | inr other ↦ before j (omega arith) has ];
+    rest = λ place no_id. others place (outside place no_id)
+        ∙ written.rest place (λ byte. no_id (IsIdByte-more old k place byte));
+  } where
+    last : (j : ℕ) → j ≡ k → Becomes (specs_for users groups (tag_of old j)) direction (id_of old j) (Some (id_of new j))
+    last j same =
+        subst (λ (m : ℕ). Becomes (specs_for users groups (tag_of old m)) direction (id_of old m) (Some (id_of new m)))
+        (sym same) (rw number becomes)
 
--- once all are written, the list is the translated one
-pub IsTranslated-written : (users groups : List IdMap) (direction : Direction) (old new : List ℕ)
-    → IsWritten users groups direction old new (entry_count old) → IsTranslated users groups direction old new
-IsTranslated-written users groups direction old new written = record {
-  user_ids = λ k below tag. rw tag at (written.written k below (inl tag));
-  group_ids = λ k below tag. rw tag at (written.written k below (inr tag));
-  rest = record { size = written.size; rest = written.rest };
-}
+    before : (j : ℕ) → j < k → HasId (tag_of old j)
+        → Becomes (specs_for users groups (tag_of old j)) direction (id_of old j) (Some (id_of new j))
+    before j below has =
+        let kept : id_of new j ≡ id_of now j =
+        same_four now new (8 + 8 * j) (λ m under. others (8 + 8 * j + m) (inl (omega arith))) in
+        rw kept (written.written j below has)
+
+    outside : (place : ℕ) → ¬ IsIdByte old (k + 1) place → (place < 8 + 8 * k) ⊎ (8 + 8 * k + 4 ≤ place)
+    outside place no_id =
+        elim (cases_lt place (8 + 8 * k)) [
+          | inl below ↦ inl below
+          | inr from ↦
+              elim (cases_lt place (8 + 8 * k + 4)) [
+                | inl inside ↦ search (rules, before)
+                | inr past ↦ inr past
+              ]
+        ]
+
+  -- once all are written, the list is the translated one
+  pub IsTranslated-written : (new : List ℕ) → IsWritten users groups direction old new (entry_count old)
+      → IsTranslated users groups direction old new
+  IsTranslated-written new written = record {
+    user_ids = λ k below tag. rw tag at (written.written k below (inl tag));
+    group_ids = λ k below tag. rw tag at (written.written k below (inr tag));
+    rest = record { size = written.size; rest = written.rest };
+  }

@@ -24,7 +24,6 @@ OfWays ways says =
 
 -- a fault of the header, of the length or of the room: no id has to do with it
 abbrev pub IsSizeFault : ℕ → List ℕ → AclError → Type 0
-IsSizeFault room value (Entry k fault) = ⊥
 IsSizeFault room value error = (users groups : List IdMap) (direction : Direction)
     → HasAclFault users groups direction room value error
 

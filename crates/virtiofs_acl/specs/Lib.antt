@@ -3,7 +3,6 @@ pub mod AclLaws
 pub mod AclParts
 pub mod AclPrinted
 pub mod Capability
-pub mod CapabilityParts
 pub mod LittleEndian
 pub mod ValueChanges
 pub mod ValueKinds

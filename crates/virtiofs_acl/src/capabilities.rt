@@ -3,12 +3,12 @@ ghost use Rattle.std.specs.Prelude.{◌≡◌, ◌≢◌, ◌↔◌, List, IfErr
 ghost use Rattle.virtiofs_acl.specs.AclLaws.{AreBytes};
 ghost use Rattle.virtiofs_acl.specs.Capability.{IsRevision, HasSize, root_of, IsCapability, IsInRevision3};
 ghost use Rattle.virtiofs_acl.specs.Capability.{HasRootFault};
-ghost use Rattle.virtiofs_acl.specs.CapabilityParts.{IsFaultOfAny};
 ghost use Rattle.virtiofs_acl.specs.ValueChanges.{ChangesRoot, WritesRevision3};
 ghost use Rattle.virtiofs_acl.specs.declared.errors.CapabilityError.TheVariants.{RootMoves};
 ghost use Rattle.virtiofs_map.specs.Image.{IsImage};
 ghost use Rattle.virtiofs_map.specs.Mapping.{Becomes};
 ghost use Rattle.virtiofs_map.specs.declared.cmdline.IdMap.{IdMap as Specification};
+ghost use Rattle.virtiofs_map.specs.declared.soft_idmap.entry.Direction.{Direction};
 
 use crate::errors::CapabilityError;
 use crate::little_endian::{read_four, write_four};
@@ -32,7 +32,8 @@ fn size_of(revision: u8) -> Option<usize>
 fn root_of(value: &[u8]) -> Result<u32, CapabilityError>
     ensures root { IfOk result (λ root. root ≡ root_of value.now) }
     ensures capability { OnOk result (IsCapability value.now) }
-    ensures refused { IfErr result (IsFaultOfAny value.now) }
+    ensures refused { IfErr result (λ error. (users : List Specification) (direction : Direction)
+        → HasRootFault users direction value.now error) }
     ensures bytes { AreBytes value.now }
 {
     if value.len() < 4 {

@@ -12,7 +12,7 @@ use Rattle.virtiofs_map.specs.declared.idmap.UidMap.{UidMap}
 use Rattle.virtiofs_map.specs.declared.soft_idmap.entry.Direction.TheVariants.{GuestToHost}
 use Rattle.virtiofs_findings.proofs.IdLemmas.{all_same}
 use Rattle.virtiofs_findings.specs.IdFindings.{AreMapped, FindsAll, TellsHost, IsKept, TellsKept, FindsKept}
-use Rattle.virtiofs_findings.specs.KeptParts.{cover_of, same_of, IsUncovered, IsSame}
+use Rattle.virtiofs_findings.specs.FindingParts.{cover_of, same_of, IsUncovered, IsSame}
 use Rattle.virtiofs_id_audit.specs.Namespace.{Has, HasNone, StandsBy, StandsAmong, StandsFor}
 use Rattle.virtiofs_id_audit.specs.Outside.{AreMoved}
 use Rattle.virtiofs_findings.specs.declared.ids.found.IdsFound.{IdsFound}

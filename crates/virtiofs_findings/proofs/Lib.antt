@@ -1,7 +1,4 @@
-mod AclNameLemmas
 mod AdviceLemmas
-mod ExplainLemmas
-mod ExplainQuestionLemmas
 mod IdLemmas
 mod KeptLemmas
 mod ListLemmas
@@ -14,4 +11,3 @@ mod RangeLemmas
 mod RefusalLemmas
 mod ReportLemmas
 mod SetUpLemmas
-mod TestLemmas

@@ -1,11 +1,16 @@
--- Lists of which some item has a property.
+-- Lists, item by item, and tests.
 use Rattle.std.proofs.lemmas.Grind.{common_steps}
-use Rattle.std.proofs.Common.{◌≡◌, ◌≢◌, ◌⊎◌, ◌↔◌, inl, inr, ℕ, ◌+◌, ◌<◌, List, [], ◌∷◌, ◌++◌, length, take, get_or, rules}
-use Rattle.std.proofs.Common.{All, subst, Bool, true, false, zero, suc, sym, ap, ◌∙◌, arith, append_assoc}
-use Rattle.std.proofs.lemmas.List.{take_more}
+use Rattle.std.proofs.Common.{◌≡◌, ◌≢◌, ℕ, ◌+◌, ◌<◌, ◌≤◌, List, [], ◌∷◌, ◌++◌, length, take, get_or, All, subst, Bool, true, false}
+use Rattle.std.proofs.Common.{sym, ap, ◌∙◌, arith, append_assoc, rules}
+use Rattle.std.proofs.Common.{◌↔◌, not, IsTrue}
+use Rattle.std.proofs.lemmas.Bool.{true≢false}
+use Rattle.std.proofs.lemmas.List.{take_all, take_more}
 use Rattle.std.proofs.lemmas.List.Elements.{All-more}
+use Rattle.std.proofs.lemmas.Option.{slice_get-get_or}
 use Rattle.std.specs.Bool.{◌==◌}
-use Rattle.virtiofs_findings.specs.Lists.{AnyHas}
+use Rattle.std.specs.List.{AllZip, Any}
+use Rattle.virtiofs_map.proofs.ForCallers.{AllZip-push}
+use Rattle.virtiofs_findings.specs.Lists.{AllZip3}
 
 -- ---- one more item
 
@@ -14,48 +19,40 @@ pub more_at : {A : Type 0} (xs : List A) (i : ℕ) (x : A) → x ≡ get_or xs i
     → take (i + 1) xs ≡ take i xs ++ x ∷ []
 more_at xs i x is below = take_more xs i x below ∙ ap (λ y. take i xs ++ y ∷ []) (sym is)
 
+-- the item at a place
+pub ruleset at_a_place = (slice_get-get_or)
+
 -- so it is of each item so far
 pub all_at : {A : Type 0} (P : A → Type 0) (xs : List A) (i : ℕ) (x : A) → x ≡ get_or xs i x → i < length xs
     → All P (take i xs) → P x → All P (take (i + 1) xs)
 all_at P xs i x is below all holds = All-more P xs i x below all (subst P is holds)
 
--- ---- some item
+-- so it is of the items so far of two lists, and of three
+pub zip_at : {X Y : Type 0} (R : X → Y → Type 0) (xs : List X) (ys : List Y) (i : ℕ) (d : X) (y : Y)
+    → i < length xs → AllZip R (take i xs) ys → R (get_or xs i d) y → AllZip R (take (i + 1) xs) (ys ++ y ∷ [])
+zip_at R xs ys i d y below all one = rw (take_more xs i d below) (AllZip-push R (take i xs) ys (get_or xs i d) y all one)
 
-pub AnyHas-left : {A : Type 0} (P : A → Type 0) (xs ys : List A) → AnyHas P xs → AnyHas P (xs ++ ys)
-AnyHas-left P [] ys some = absurd some
-AnyHas-left P (x ∷ xs) ys (inl here) = inl here
-AnyHas-left P (x ∷ xs) ys (inr later) = inr (AnyHas-left P xs ys later)
+pub zip_more : {X Y : Type 0} (R : X → Y → Type 0) (xs : List X) (ys : List Y) (i : ℕ) (x : X) (y : Y)
+    → x ≡ get_or xs i x → i < length xs → AllZip R (take i xs) ys → R x y → AllZip R (take (i + 1) xs) (ys ++ y ∷ [])
+zip_more R xs ys i x y is below all one = rw (more_at xs i x is below) (AllZip-push R (take i xs) ys x y all one)
 
-pub AnyHas-right : {A : Type 0} (P : A → Type 0) (xs ys : List A) → AnyHas P ys → AnyHas P (xs ++ ys)
-AnyHas-right P [] ys some = some
-AnyHas-right P (x ∷ xs) ys some = inr (AnyHas-right P xs ys some)
+zip3_push : {X Y Z : Type 0} (R : X → Y → Z → Type 0) (xs : List X) (ys : List Y) (zs : List Z) (x : X) (y : Y) (z : Z)
+    → AllZip3 R xs ys zs → R x y z → AllZip3 R (xs ++ x ∷ []) (ys ++ y ∷ []) (zs ++ z ∷ [])
+zip3_push R [] [] [] x y z all one = (one, tt)
+zip3_push R [] [] (c ∷ zs) x y z all one = absurd all
+zip3_push R [] (b ∷ ys) zs x y z all one = absurd all
+zip3_push R (a ∷ xs) [] zs x y z all one = absurd all
+zip3_push R (a ∷ xs) (b ∷ ys) [] x y z all one = absurd all
+zip3_push R (a ∷ xs) (b ∷ ys) (c ∷ zs) x y z (here, all) one = (here, zip3_push R xs ys zs x y z all one)
 
-pub AnyHas-cases : {A : Type 0} (P : A → Type 0) (xs ys : List A) → AnyHas P (xs ++ ys) → AnyHas P xs ⊎ AnyHas P ys
-AnyHas-cases P [] ys some = inr some
-AnyHas-cases P (x ∷ xs) ys (inl here) = inl (inl here)
-AnyHas-cases P (x ∷ xs) ys (inr later) = grind (arith, AnyHas-cases P xs ys later)
+pub zip3_more : {X Y Z : Type 0} (R : X → Y → Z → Type 0) (xs : List X) (ys : List Y) (zs : List Z) (i : ℕ) (x : X) (y : Y)
+    (z : Z) → x ≡ get_or xs i x → y ≡ get_or ys i y → i < length xs → length ys ≡ length xs
+    → AllZip3 R (take i xs) (take i ys) zs → R x y z → AllZip3 R (take (i + 1) xs) (take (i + 1) ys) (zs ++ z ∷ [])
+zip3_more R xs ys zs i x y z is is_too below same all one =
+    rw (more_at xs i x is below, more_at ys i y is_too (omega (arith, below, same)))
+    (zip3_push R (take i xs) (take i ys) zs x y z all one)
 
--- one more item
-pub AnyHas-push : {A : Type 0} (P : A → Type 0) (xs : List A) (x : A) → AnyHas P (xs ++ x ∷ []) ↔ (AnyHas P xs ⊎ P x)
-AnyHas-push P xs x = (
-  (λ some. elim (AnyHas-cases P xs (x ∷ []) some) [ inl before ↦ inl before | inr last ↦ inr (only last) ]),
-  (λ some.
-      elim some [ inl before ↦ AnyHas-left P xs (x ∷ []) before | inr here ↦ AnyHas-right P xs (x ∷ []) (inl here) ]),
-) where
-  only : AnyHas P (x ∷ []) → P x
-  only (inl here) = here
-  only (inr none) = absurd none
-
--- the item at a place
-pub AnyHas-at : {A : Type 0} (P : A → Type 0) (xs : List A) (i : ℕ) (d : A) → i < length xs → P (get_or xs i d) → AnyHas P xs
-AnyHas-at P [] i d below here = absurd (omega (arith, below))
-AnyHas-at P (x ∷ xs) zero d below here = inl here
-AnyHas-at P (x ∷ xs) (suc i) d below here = inr (AnyHas-at P xs i d (omega (arith, below)) here)
-
--- none of the items so far, nor the next one
-pub AnyHas-none : {A : Type 0} (P : A → Type 0) (xs : List A) (i : ℕ) (x : A) → x ≡ get_or xs i x → i < length xs
-    → (¬ AnyHas P (take i xs)) → (¬ P x) → ¬ AnyHas P (take (i + 1) xs)
-AnyHas-none P xs i x is below none not some = grind (arith, common_steps, AnyHas-push, more_at)
+-- ---- empty lists
 
 -- whether a list is empty
 pub is_none : {T : Type 0} (xs : List T) → true ≡ (length xs == 0) → ¬ (xs ≢ [])
@@ -78,6 +75,18 @@ pub in_three : {T : Type 0} (old x y z one two new : List T) → one ≡ old ++ 
     → new ≡ old ++ (x ++ y ++ z)
 in_three old x y z one two new first second third = search (rules, in_two)
 
--- ---- what is made of each item, one after the other
+-- ---- tests
 
--- ---- two lists, item by item
+-- a test that fails
+pub decides_not : {P : Type 0} (test : Bool) → IsTrue test ↔ P → test ≡ false → ¬ P
+decides_not test says fails holds = true≢false (sym (says.1 holds) ∙ fails)
+
+-- what denies a test
+pub denied : {P : Type 0} (test : Bool) → IsTrue test ↔ P → IsTrue (not test) ↔ (¬ P)
+denied test says = grind arith
+
+-- where no item up to the end has a property, none has
+pub any_none : {X : Type 0} (P : X → Type 0) (xs : List X) (i : ℕ) → length xs ≤ i → All (λ x. ¬ P x) (take i xs)
+    → ¬ Any P xs
+any_none P xs i over none (k, x, below, here, holds) =
+    (rw (take_all i xs over) at none) k x below (subst P (sym here) holds)

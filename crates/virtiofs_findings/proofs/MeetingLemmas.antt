@@ -3,19 +3,15 @@ use Rattle.std.proofs.Common.{◌≡◌, ◌≢◌, ◌↔◌, inl, inr, ℕ, �
 use Rattle.std.proofs.Common.{Contains, Vec, Result, Ok, Err, IfOk, refl, subst, sym, arith, rules}
 use Rattle.std.proofs.lemmas.List.{take_more, take_all}
 use Rattle.std.proofs.lemmas.List.Elements.{Contains-push_cases}
-use Rattle.virtiofs_id_audit.specs.IdAudit.{IsLeastId, GoesInto, ReachedBy, Hold, AreRuns}
+use Rattle.virtiofs_id_audit.specs.IdAudit.{ReachedBy, Hold}
 use Rattle.virtiofs_map.specs.declared.cmdline.IdMap.{IdMap as Specification}
 use Rattle.virtiofs_id_audit.specs.declared.spans.Span.{Span}
 use Rattle.virtiofs_map.specs.declared.idmap.UidMap.{UidMap}
-use Rattle.virtiofs_findings.specs.IdFindings.{AreAll, ReachedOutside, Meets, TellsMeeting}
+use Rattle.virtiofs_findings.specs.IdFindings.{ReachedOutside, Meets}
 use Rattle.virtiofs_id_audit.specs.Namespace.{StandsBy, StandsAmong, StandsFor}
 use Rattle.virtiofs_id_audit.specs.Outside.{AreMoved}
-use Rattle.virtiofs_findings.specs.declared.ids.found.IdsFound.{IdsFound}
 use Rattle.virtiofs_id_audit.specs.declared.outside.Way.TheVariants.{Inwards, Outwards}
-use Rattle.virtiofs_findings.proofs.IdLemmas.{into_same}
 use Rattle.virtiofs_id_audit.proofs.ForCallers.{among_moves}
-
--- ---- what one id is
 
 -- ---- by ranges, one after the other
 
@@ -97,38 +93,3 @@ meets_spans others ranges other_ranges theirs outside ids met reach out but into
   (λ (host, stands, (small, (guest, goes))). (into.each inside).1
       (host, (but host).1 ((out.each host).1 (goes.host, (reach goes.host).1 (guest, goes.goes), goes.is_one), small), stands)),
 )
-
--- ---- the least id of the first guest
-
-module _ (specs : List Specification) (ranges : List UidMap) (others : List Specification) (other_ranges : List UidMap)
-    (spans : List Span) (same : (inside : ℕ) → Hold spans inside ↔ Meets ranges others other_ranges inside) where
-  pub meets_nowhere : ((n : ℕ) → ¬ GoesInto specs (Hold spans) n) → (n : ℕ)
-      → ¬ GoesInto specs (Meets ranges others other_ranges) n
-  meets_nowhere none n into =
-      none n (into_same _ _ _ (λ inside. (same inside).1) n into)
-
-  pub meets_first : (n : ℕ) → IsLeastId (GoesInto specs (Hold spans)) n
-      → IsLeastId (GoesInto specs (Meets ranges others other_ranges)) n
-  meets_first n least = record {
-    is_bad =
-        into_same _ _ _ (λ inside. (same inside).0) n least.is_bad;
-    none_before = λ m before into. least.none_before m before (into_same _ _ _ (λ inside. (same inside).1) m into);
-  }
-
-  -- all ids of the first guest, and what is told of the least of them
-  pub meetings : {A : Type 0} (found : IdsFound A) (ids : Vec Span A) (first : ℕ)
-      → ((n : ℕ) → Hold ids.items n ↔ GoesInto specs (Hold spans) n) → AreRuns ids.items
-      → IsLeastId (GoesInto specs (Hold spans)) first → found.ids ≡ ids → found.guest ≡ first
-      → TellsMeeting specs ranges others other_ranges found
-      → AreAll (GoesInto specs (Meets ranges others other_ranges)) (TellsMeeting specs ranges others other_ranges) found
-  meetings {A} found ids first each runs least are is tells = record {
-    each = λ n. (
-      (λ held. into_same _ _ _ (λ inside. (same inside).0) n
-          ((each n).0 (subst (λ (xs : Vec Span A). Hold xs.items n) are held))),
-      (λ into. subst (λ (xs : Vec Span A). Hold xs.items n) (sym are)
-          ((each n).1 (into_same _ _ _ (λ inside. (same inside).1) n into))),
-    );
-    runs = subst (λ (xs : Vec Span A). AreRuns xs.items) (sym are) runs;
-    least = subst (IsLeastId (GoesInto specs (Meets ranges others other_ranges))) (sym is) (meets_first _ least);
-    tells = tells;
-  }

@@ -5,7 +5,7 @@ use Rattle.std.specs.Prelude.{nat_lt, ◌&&◌}
 use Rattle.std.proofs.lemmas.Bool.{and_right, cases_eq, cases_lt, le-leb, leb-true, and_parts, lt-leb, lt-ltb, le-ltb}
 use Rattle.std.proofs.lemmas.List.Elements.{All-nil, All-cons, All-head, All-tail, All-weaker}
 use Rattle.virtiofs_map.specs.declared.idmap.UidMap.{UidMap}
-use Rattle.virtiofs_findings.specs.RangeParts.{AgreeAround}
+use Rattle.virtiofs_findings.specs.FindingParts.{AgreeAround}
 use Rattle.virtiofs_findings.specs.Ranges.{has, outside_of, AreSame}
 
 -- ---- ranges that mean the same

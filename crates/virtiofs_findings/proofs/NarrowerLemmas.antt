@@ -19,10 +19,10 @@ use Rattle.virtiofs_map.specs.declared.cmdline.IdMap.TheVariants.{ForbidGuest}
 use Rattle.virtiofs_map.specs.declared.soft_idmap.entry.Direction.TheVariants.{GuestToHost, HostToGuest}
 use Rattle.virtiofs_map.specs.declared.xattrmap.scopes.Side.{Side}
 use Rattle.virtiofs_map.specs.declared.xattrmap.scopes.Side.TheVariants.{Client, Server}
-use Rattle.virtiofs_map.proofs.ForCallers.{AllZip-push, Becomes-forbidden, deciding-find}
+use Rattle.virtiofs_map.proofs.ForCallers.{Becomes-forbidden, deciding-find}
 use Rattle.virtiofs_findings.specs.Guests.{SetsUp}
 use Rattle.virtiofs_findings.specs.Narrower.{NarrowerIds, NarrowerNames, NarrowerSet, SameRest, AreNarrower, deny_all}
-use Rattle.virtiofs_findings.specs.NarrowerParts.{EndsAt, IsSameAt}
+use Rattle.virtiofs_findings.specs.FindingParts.{EndsAt, IsSameAt}
 use Rattle.virtiofs_findings.specs.declared.guest.Guest.{Guest}
 use Rattle.virtiofs_findings.specs.declared.setup.SetUp.{SetUp}
 
@@ -190,14 +190,6 @@ narrower_rules given other place at past within agree ends =
     }
 
 -- ---- guests
-
-pub all_narrower_more : {X Y : Type 0} (R : X → Y → Type 0) (xs : List X) (ys : List Y) (i : ℕ) (x : X) (y : Y)
-    → i < length xs → i < length ys → x ≡ get_or xs i x → y ≡ get_or ys i y → AllZip R (take i xs) (take i ys) → R x y
-    → AllZip R (take (i + 1) xs) (take (i + 1) ys)
-all_narrower_more R xs ys i x y in_xs in_ys here there all one =
-    subst (λ z. AllZip R z (take (i + 1) ys)) (sym (take_more xs i x in_xs ∙ ap (λ z. take i xs ++ z ∷ []) (sym here)))
-    (subst (AllZip R (take i xs ++ x ∷ [])) (sym (take_more ys i y in_ys ∙ ap (λ z. take i ys ++ z ∷ []) (sym there)))
-    (AllZip-push R (take i xs) (take i ys) x y all one))
 
 -- what holds place by place holds at a place
 pub holds_at : {X : Type 0} (R : X → X → Type 0) (xs ys : List X) (i : ℕ) (x y : X) → i < length xs → x ≡ get_or xs i x

@@ -8,7 +8,7 @@ use Rattle.std.proofs.lemmas.Option.{slice_get_past, slice_get-get_or, none-some
 use Rattle.virtiofs_map.specs.declared.idmap.UidMap.{UidMap}
 use Rattle.virtiofs_host.specs.declared.runner.Bounds.{Bounds}
 use Rattle.virtiofs_findings.specs.Ranges.{MeetInside, MeetOutside, MeetsOneAt, IsBeyond, line_of, lines_of, IsRefused, IsAtFault, HasFaultAt}
-use Rattle.virtiofs_findings.specs.RangeParts.{MeetsNone, MeetsAs}
+use Rattle.virtiofs_findings.specs.FindingParts.{MeetsNone, MeetsAs}
 use Rattle.virtiofs_findings.specs.declared.ids.ranges.RangeFault.{RangeFault}
 use Rattle.virtiofs_findings.specs.declared.ids.ranges.RangeFault.TheVariants.{Empty, Beyond, TooMany, PastPage, NotGiven, MeetsInside, MeetsOutside}
 

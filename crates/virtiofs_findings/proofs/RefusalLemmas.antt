@@ -10,12 +10,11 @@ use Rattle.std.specs.List.{AllZip}
 use Rattle.std.specs.Str.{chars}
 use Rattle.virtiofs_map.proofs.ForCallers.{texts_no_fault, rules_no_fault}
 use Rattle.virtiofs_findings.proofs.SetUpLemmas.{ranges_right}
-use Rattle.virtiofs_findings.specs.Guests.{HasNoRange, RefusesSpecs, RefusesRanges, ReadsIds, ReadsNames, SetsUp, IsRefused}
+use Rattle.virtiofs_findings.specs.Guests.{HasNoRange, RefusesSpecs, RefusesRanges, ReadsIds, ReadsNames, SetsUp, IsRefused, is_by_another, specs_of, written_of}
 use Rattle.virtiofs_findings.specs.Refusals.{TellsNoRange, TellsRanges, TellsSpecs, TellsIds, TellsNames, TellsGuest}
 use Rattle.virtiofs_findings.specs.Refusals.{TellsGuests, IsSomeRefused}
 use Rattle.virtiofs_findings.specs.declared.ids.kind.IdKind.{IdKind}
 use Rattle.virtiofs_findings.specs.declared.refusal.Refusal.{Refusal}
-use Rattle.virtiofs_host.specs.declared.runner.Bounds.{Bounds}
 use Rattle.virtiofs_findings.specs.declared.setup.IdSetUp.{IdSetUp}
 use Rattle.virtiofs_findings.specs.declared.setup.NamesSetUp.{NamesSetUp}
 use Rattle.virtiofs_findings.specs.declared.setup.SetUp.{SetUp}
@@ -61,32 +60,28 @@ ranges_told : {A : Type 0} (number : ℕ) (kind : IdKind) (by_another : Bool) (t
 ranges_told number kind by_another texts told (inl (knows, tells)) =
     let same = no_range_told number kind texts told tells in
     ((λ some. inl (same.0 some)), (λ wrong. elim wrong [ inl none ↦ same.1 none | inr unknown ↦ absurd (knows unknown) ]))
-ranges_told number kind by_another texts told (inr (unknown, (refusal, at, alone))) = grind arith
+ranges_told number kind by_another texts told (inr (unknown, (why, alone))) = grind arith
 
 -- ---- what is set up
 
-ids_none : {A : Type 0} (bounds : Option (Bounds A)) (by_another own_alone : Bool) (specs ranges : List (List ℕ))
-    (set : Option (IdSetUp A)) → ReadsIds bounds by_another own_alone specs ranges set
-    → (RefusesSpecs specs ⊎ RefusesRanges by_another ranges) ↔ (set ≡ None)
-ids_none bounds by_another own_alone specs ranges (Some set) (say, accepted, reads, runs) = (
+ids_none : {A : Type 0} (kind : IdKind) (guest : Guest A) (set : Option (IdSetUp A)) → ReadsIds kind guest set
+    → (RefusesSpecs (specs_of kind guest) ⊎ RefusesRanges (is_by_another guest) (written_of kind guest)) ↔ (set ≡ None)
+ids_none kind guest (Some set) (say, accepted, reads, runs) = (
   (λ wrong. elim wrong [
-    | inl (fault, has) ↦ absurd (texts_no_fault specs set.map fault say accepted has)
-    | inr (inl none) ↦ absurd (ranges_right ranges set.written.items reads.0 none)
+    | inl (fault, has) ↦ absurd (texts_no_fault _ set.map fault say accepted has)
+    | inr (inl none) ↦ absurd (ranges_right _ set.written.items reads.0 none)
     | inr (inr unknown) ↦ absurd (reads.1 unknown)
   ]),
   (λ none. absurd (none-some set (sym none))),
 )
-ids_none bounds by_another own_alone specs ranges None refused = ((λ wrong. refl), (λ none. refused))
+ids_none kind guest None refused = ((λ wrong. refl), (λ none. refused))
 
-ids_told : {A : Type 0} (bounds : Option (Bounds A)) (by_another own_alone : Bool) (number : ℕ) (kind : IdKind)
-    (specs ranges : List (List ℕ)) (set : Option (IdSetUp A)) (told : List (Refusal A))
-    → ReadsIds bounds by_another own_alone specs ranges set → TellsIds number kind by_another specs ranges told
-    → (told ≢ []) ↔ (set ≡ None)
-ids_told bounds by_another own_alone number kind specs ranges set told reads tells =
-    let none = ids_none bounds by_another own_alone specs ranges set reads in
-    let both =
-    both_some (RefusesSpecs specs) (RefusesRanges by_another ranges) tells.of_specs tells.of_ranges told tells.whole
-    (specs_told number _ specs tells.of_specs tells.tells_specs) (ranges_told number _ by_another ranges tells.of_ranges tells.tells_ranges) in
+ids_told : {A : Type 0} (number : ℕ) (kind : IdKind) (guest : Guest A) (set : Option (IdSetUp A))
+    (told : List (Refusal A)) → ReadsIds kind guest set → TellsIds number kind guest told → (told ≢ []) ↔ (set ≡ None)
+ids_told number kind guest set told reads tells =
+    let none = ids_none kind guest set reads in
+    let both = both_some _ _ tells.of_specs tells.of_ranges told tells.whole
+    (specs_told number _ _ tells.of_specs tells.tells_specs) (ranges_told number _ _ _ tells.of_ranges tells.tells_ranges) in
     ((λ some. none.0 (both.0 some)), (λ is. both.1 (none.1 is)))
 
 names_told : {A : Type 0} (number : ℕ) (rules : Option (Bor (List ℕ))) (set : Option (NamesSetUp A))
@@ -103,8 +98,8 @@ guest_told : {A : Type 0} (number : ℕ) (guest : Guest A) (set : SetUp A) (told
 guest_told number guest set told sets_up tells =
     both_some _ _ tells.of_users (tells.of_groups ++ tells.of_names) told
     (tells.whole ∙ append_assoc tells.of_users tells.of_groups tells.of_names)
-    (ids_told _ _ _ number _ _ _ set.users tells.of_users sets_up.users tells.users) (both_some _ _ _ _ _ refl
-    (ids_told _ _ _ number _ _ _ set.groups tells.of_groups sets_up.groups tells.groups)
+    (ids_told number _ _ set.users tells.of_users sets_up.users tells.users) (both_some _ _ _ _ _ refl
+    (ids_told number _ _ set.groups tells.of_groups sets_up.groups tells.groups)
     (names_told number _ set.names tells.of_names sets_up.names tells.names))
 
 -- something is told of guests exactly where a text of one is refused

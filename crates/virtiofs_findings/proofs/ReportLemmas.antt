@@ -40,9 +40,3 @@ adds_more Tells sets place number set before between after is below one so_far t
 pub adds_all : {S F : Type 0} (Tells : ℕ → S → List F → Type 0) (sets : List S) (place : ℕ) (before after : List F)
     → length sets ≤ place → Adds (Each Tells 1 (take place sets)) before after → Adds (Each Tells 1 sets) before after
 adds_all Tells sets place before after over adds = grind (arith, take_all)
-
--- ---- ids of a kind
-
--- ---- a guest
-
--- ---- all

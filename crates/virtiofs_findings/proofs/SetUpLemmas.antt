@@ -1,10 +1,11 @@
 -- What the options of a guest set up, and what is told of texts that are refused.
 use Rattle.std.proofs.lemmas.Grind.{common_steps}
 use Rattle.std.proofs.Common.{◌≡◌, inl, inr, ℕ, ◌+◌, ◌<◌, List, [], ◌∷◌, ◌++◌, length, take, get_or, rules}
-use Rattle.std.proofs.Common.{Option, Some, None, Result, Ok, Err, OnOk, refl, sym, ap, ◌∙◌, subst, append_assoc, arith}
+use Rattle.std.proofs.Common.{Option, Some, None, Result, Ok, Err, OnOk, refl, sym, ap, ◌∙◌, subst, arith}
 use Rattle.std.proofs.Common.{append-nil, string_bytes}
 use Rattle.std.specs.Prelude.{Bool, IsSomeAnd, slice_get, slice_index_or, zero, suc}
 use Rattle.std.specs.Borrow.{Bor}
+use Rattle.std.specs.declared.string.String.{String}
 use Rattle.std.specs.List.{AllZip}
 use Rattle.std.specs.Option.{option_map, option_map_or}
 use Rattle.std.specs.Str.{chars}
@@ -26,29 +27,16 @@ use Rattle.virtiofs_map.specs.declared.soft_idmap.errors.SpecsError.{SpecsError}
 use Rattle.virtiofs_map.specs.declared.soft_idmap.errors.SpecsError.TheVariants as errors
 use Rattle.virtiofs_map.specs.declared.xattrmap.errors.Error.{Error}
 use Rattle.virtiofs_map.proofs.ForCallers.{AllZip-push, texts_no_fault, namespace_no_fault, rules_no_fault}
-use Rattle.virtiofs_findings.specs.Guests.{SaysRange, HasNoRange, LeaveUnknown, ReadsText, SetsUp, is_by_another}
+use Rattle.virtiofs_findings.specs.Guests.{SaysRange, HasNoRange, LeaveUnknown, ReadsText, is_by_another, specs_of, written_of}
 use Rattle.virtiofs_findings.specs.Lists.{Adds}
-use Rattle.virtiofs_findings.specs.Refusals.{IsAt, IsReason, TellsSpecsFault, TellsIds}
-use Rattle.virtiofs_findings.specs.Refusals.{TellsSpecs, TellsNoRange, TellsRanges, TellsNames, TellsGuest, place_of}
+use Rattle.virtiofs_findings.specs.Refusals.{refusal_of, IsReason, TellsSpecsFault, TellsIds}
+use Rattle.virtiofs_findings.specs.Refusals.{TellsSpecs, TellsNoRange, TellsRanges, TellsNames, place_of}
 use Rattle.virtiofs_findings.specs.declared.refusal.Refusal.{Refusal}
 use Rattle.virtiofs_findings.specs.declared.refusal.Refused.TheVariants.{Spec, Range, Own, Rules}
 use Rattle.virtiofs_findings.specs.declared.ids.kind.IdKind.{IdKind}
-use Rattle.virtiofs_findings.specs.declared.ids.kind.IdKind.TheVariants.{Users, Groups}
 use Rattle.virtiofs_findings.specs.declared.guest.Guest.{Guest}
 use Rattle.virtiofs_findings.specs.declared.setup.NamesSetUp.{NamesSetUp}
-use Rattle.virtiofs_findings.specs.declared.setup.SetUp.{SetUp}
-use Rattle.virtiofs_findings.proofs.ListLemmas.{in_two, more_at}
-
--- ---- what is set up
-
--- one more guest
-pub sets_up_more : {A : Type 0} (guests : List (Guest A)) (sets : List (SetUp A)) (place : ℕ) (guest : Guest A)
-    (set : SetUp A)
-    → guest ≡ get_or guests place guest → place < length guests → AllZip SetsUp (take place guests) sets
-    → SetsUp guest set
-    → AllZip SetsUp (take (place + 1) guests) (sets ++ set ∷ [])
-sets_up_more guests sets place guest set is below all one =
-    rw (more_at guests place guest is below) (AllZip-push SetsUp (take place guests) sets guest set all one)
+use Rattle.virtiofs_findings.proofs.ListLemmas.{in_two}
 
 -- ---- what is told
 
@@ -59,44 +47,41 @@ adds_both P Q R before between after first second whole = grind (arith, common_s
 
 -- a refusal of a specification
 pub adds_fault : {A T E : Type 0} (r : Result T E) (error : SpecsError A) (place : ℕ) (before after : List (Refusal A))
-    (number : ℕ) (kind : IdKind) (why : List ℕ) → Some place ≡ option_map place_of (specs_fault_of error)
-    → ((build : IdMapBuildError) → error ≡ errors.Build build → why ≡ build_error_text build)
-    → OnOk r ((refusal : Refusal A) × IsAt number (Spec kind place) refusal × (string_bytes refusal.why ≡ why)
-    × (after ≡ before ++ refusal ∷ []))
+    (number : ℕ) (kind : IdKind) (why : String A) → Some place ≡ option_map place_of (specs_fault_of error)
+    → ((build : IdMapBuildError) → error ≡ errors.Build build → string_bytes why ≡ build_error_text build)
+    → OnOk r (after ≡ before ++ refusal_of number (Spec kind place) why ∷ [])
     → OnOk r ((f : SpecsFault) × (specs_fault_of error ≡ Some f) × Adds (TellsSpecsFault number kind f) before after)
 adds_fault (Err e) error place before after number kind why at says told = tt
-adds_fault {A = A} (Ok x) error place before after number kind why is says (refusal, at, same, added) =
-    by (specs_fault_of error) refl is where
-      reason : (error : SpecsError A) (fault : SpecsFault) → specs_fault_of error ≡ Some fault
-          → ((build : IdMapBuildError) → error ≡ errors.Build build → string_bytes refusal.why ≡ build_error_text build)
-          → IsReason fault refusal
-      reason error (Unread index fault) same says = tt
-      reason (errors.Spec index cause) (Unbuilt fault) same says = absurd (unread (specification_fault_of cause) same) where
-        unread : (told : Option SpecificationFault) → option_map (Unread index) told ≡ Some (Unbuilt fault) → ⊥
-        unread None e = cc
-        unread (Some f) e = cc
-      reason (errors.Build build) (Unbuilt fault) same says = (build, built (build_fault_of build) same, says build refl) where
-        built : (told : Option BuildFault) → option_map Unbuilt told ≡ Some (Unbuilt fault) → told ≡ Some fault
-        built None e = absurd (cc)
-        built (Some f) e = cc
+adds_fault {A = A} (Ok x) error place before after number kind why is says added = by (specs_fault_of error) refl is where
+  reason : (error : SpecsError A) (fault : SpecsFault) → specs_fault_of error ≡ Some fault
+      → ((build : IdMapBuildError) → error ≡ errors.Build build → string_bytes why ≡ build_error_text build)
+      → IsReason fault (string_bytes why)
+  reason error (Unread index fault) same says = tt
+  reason (errors.Spec index cause) (Unbuilt fault) same says = absurd (unread (specification_fault_of cause) same) where
+    unread : (told : Option SpecificationFault) → option_map (Unread index) told ≡ Some (Unbuilt fault) → ⊥
+    unread None e = cc
+    unread (Some f) e = cc
+  reason (errors.Build build) (Unbuilt fault) same says = (build, built (build_fault_of build) same, says build refl) where
+    built : (told : Option BuildFault) → option_map Unbuilt told ≡ Some (Unbuilt fault) → told ≡ Some fault
+    built None e = absurd (cc)
+    built (Some f) e = cc
 
-      by : (told : Option SpecsFault) → specs_fault_of error ≡ told → Some place ≡ option_map place_of told
-          → (f : SpecsFault) × (specs_fault_of error ≡ Some f) × Adds (TellsSpecsFault number kind f) before after
-      by None e is = absurd (cc)
-      by (Some fault) e is = (
-        fault,
-        e,
-        record {
-          more = refusal ∷ [];
-          is = record {
-            refusal = refusal;
-            at = subst (λ n. IsAt number (Spec kind n) refusal) (same_Some _ _ is) at;
-            why = reason error fault e (λ build e. same ∙ says build e);
-            alone = refl;
-          };
-          added = added;
-        },
-      )
+  by : (told : Option SpecsFault) → specs_fault_of error ≡ told → Some place ≡ option_map place_of told
+      → (f : SpecsFault) × (specs_fault_of error ≡ Some f) × Adds (TellsSpecsFault number kind f) before after
+  by None e is = absurd (cc)
+  by (Some fault) e is = (
+    fault,
+    e,
+    record {
+      more = refusal_of number (Spec kind place) why ∷ [];
+      is = record {
+        why = why;
+        reason = reason error fault e says;
+        alone = ap (λ n. refusal_of number (Spec kind n) why ∷ []) (same_Some _ _ is);
+      };
+      added = added;
+    },
+  )
 
 -- nothing is told of specifications of which a map is made
 pub adds_no_specs : {A : Type 0} (number : ℕ) (kind : IdKind) (texts : List (List ℕ)) (specs : List IdMap)
@@ -125,21 +110,15 @@ ranges_right texts ranges say (text, fault, within, wrong) =
       each (x ∷ texts) (range ∷ ranges) say (suc k) d below = each texts ranges say.1 k d (omega (below, arith))
 
 -- the first that is not read is told of
-pub adds_range : {A : Type 0} (number : ℕ) (kind : IdKind) (why : List ℕ) (texts : List (Bor (List ℕ))) (ranges : List UidMap)
-    (i : ℕ)
-    (d : Bor (List ℕ)) (fault : NamespaceFault) (before after : List (Refusal A))
+pub adds_range : {A : Type 0} (number : ℕ) (kind : IdKind) (why : String A) (texts : List (Bor (List ℕ)))
+    (ranges : List UidMap) (i : ℕ) (d : Bor (List ℕ)) (fault : NamespaceFault) (before after : List (Refusal A))
     → i < length texts → AllZip SaysRange (take i (texts_of texts)) ranges
     → HasNamespaceFault (chars (get_or texts i d).now) fault
-    → ((refusal : Refusal A) × IsAt number (Range kind i) refusal × (string_bytes refusal.why ≡ why)
-    × (after ≡ before ++ refusal ∷ []))
+    → after ≡ before ++ refusal_of number (Range kind i) why ∷ []
     → Adds (TellsNoRange number kind (texts_of texts)) before after
-adds_range number kind why texts ranges i d fault before after below say wrong (refusal, at, same, added) = record {
-  more = refusal ∷ [];
-  is = inr (
-    i,
-    record { before = ranges; say = say; here = here },
-    (refusal, at, refl),
-  );
+adds_range number kind why texts ranges i d fault before after below say wrong added = record {
+  more = refusal_of number (Range kind i) why ∷ [];
+  is = inr (i, record { before = ranges; say = say; here = here }, (why, refl));
   added = added;
 } where
   f : Bor (List ℕ) → List ℕ
@@ -164,25 +143,22 @@ adds_no_rules {A = A} number rules text set before after is same read = record {
 
 -- of those that are refused their fault is told
 pub adds_rules : {A : Type 0} (number : ℕ) (rules : Option (Bor (List ℕ))) (text : Bor (List ℕ)) (error : Error A)
-    (refusal : Refusal A) (before after : List (Refusal A))
+    (why : String A) (before after : List (Refusal A))
     → rules ≡ Some text → OutOfMemoryOr (rules_fault_of error) (HasRulesFault (chars text.now))
-    → ((f : RulesFault) × (rules_fault_of error ≡ Some f))
-    → refusal.guest ≡ number → refusal.what ≡ Rules → string_bytes refusal.why ≡ rules_error_text error
-    → after ≡ before ++ refusal ∷ []
+    → ((f : RulesFault) × (rules_fault_of error ≡ Some f)) → string_bytes why ≡ rules_error_text error
+    → after ≡ before ++ refusal_of number Rules why ∷ []
     → Adds (TellsNames number rules) before after
-adds_rules number rules text error refusal before after is_text about (fault, is) guest at why added = record {
-  more = refusal ∷ [];
+adds_rules number rules text error why before after is_text about (fault, is) reason added = record {
+  more = refusal_of number Rules why ∷ [];
   is =
-      subst (λ r. TellsNames number r (refusal ∷ [])) (sym is_text)
+      subst (λ r. TellsNames number r (refusal_of number Rules why ∷ [])) (sym is_text)
       (inr (record {
         error = error;
         fault = fault;
-        refusal = refusal;
+        why = why;
         about = is;
         has = has (rules_fault_of error) is about;
-        guest = guest;
-        at = at;
-        why = why;
+        reason = reason;
         alone = refl;
       }));
   added = added;
@@ -192,29 +168,29 @@ adds_rules number rules text error refusal before after is_text about (fault, is
   has None is about = absurd (cc)
   has (Some one) is about = subst (HasRulesFault (chars text.now)) (same_Some _ _ is) about
 
--- and where it is not
+-- where it is not known as which id a daemon acts, that is told
 pub adds_unknown : {A : Type 0} (number : ℕ) (kind : IdKind) (by_another : Bool) (texts : List (List ℕ))
-    (before after : List (Refusal A)) (refusal : Refusal A) → LeaveUnknown by_another texts → IsAt number (Own kind) refusal
-    → after ≡ before ++ refusal ∷ [] → Adds (TellsRanges number kind by_another texts) before after
-adds_unknown number kind by_another texts before after refusal unknown at_one is =
-    record { more = refusal ∷ []; is = inr (unknown, (refusal, at_one, refl)); added = is }
+    (before after : List (Refusal A)) (why : String A) → LeaveUnknown by_another texts
+    → after ≡ before ++ refusal_of number (Own kind) why ∷ [] → Adds (TellsRanges number kind by_another texts) before after
+adds_unknown number kind by_another texts before after why unknown is =
+    record { more = refusal_of number (Own kind) why ∷ []; is = inr (unknown, (why, refl)); added = is }
 
 -- what is told of both options of a kind
-pub adds_ids : {A : Type 0} (number : ℕ) (kind : IdKind) (by_another : Bool) (specs ranges : List (List ℕ))
-    (before between after : List (Refusal A))
-    → Adds (TellsSpecs number kind specs) before between → Adds (TellsRanges number kind by_another ranges) between after
-    → Adds (TellsIds number kind by_another specs ranges) before after
-adds_ids number kind by_another specs ranges before between after first second = search (rules, adds_both)
-
--- what is told of users, of groups and of names
-pub adds_kinds : {A : Type 0} (number : ℕ) (guest : Guest A) (before first second after : List (Refusal A))
-    → Adds (TellsIds number Users (is_by_another guest) (texts_of guest.options.translate_uid.items) (texts_of guest.options.uid_map.items))
-    before first
-    → Adds (TellsIds number Groups (is_by_another guest) (texts_of guest.options.translate_gid.items) (texts_of guest.options.gid_map.items))
-    first second
-    → Adds (TellsNames number guest.options.xattrmap) second after
-    → Adds (TellsGuest number guest) before after
-adds_kinds {A = A} number guest before first second after users groups names = grind (arith, adds_both, append_assoc)
+pub adds_ids : {A : Type 0} (number : ℕ) (kind : IdKind) (guest : Guest A) (specs ranges : List (List ℕ))
+    (before between after : List (Refusal A)) → specs ≡ specs_of kind guest → ranges ≡ written_of kind guest
+    → Adds (TellsSpecs number kind specs) before between
+    → Adds (TellsRanges number kind (is_by_another guest) ranges) between after
+    → Adds (TellsIds number kind guest) before after
+adds_ids number kind guest specs ranges before between after is are first second =
+    adds_both (TellsSpecs number kind (specs_of kind guest)) (TellsRanges number kind (is_by_another guest) (written_of kind guest))
+    (TellsIds number kind guest) before between after (rw is at first) (rw are at second)
+    (λ one other tells too. record {
+      of_specs = one;
+      of_ranges = other;
+      tells_specs = tells;
+      tells_ranges = too;
+      whole = refl;
+    })
 
 -- ---- faults
 

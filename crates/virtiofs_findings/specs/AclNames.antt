@@ -1,11 +1,11 @@
 -- Access control lists whose attributes the rules pass under other names.
-use Rattle.std.specs.Prelude.{◌≡◌, ◌≢◌, ℕ, Bool, true, false, List, [], ◌++◌, codes, Option, Some, None}
+use Rattle.std.specs.Prelude.{◌≡◌, ◌≢◌, ℕ, Bool, true, false, List, [], ◌++◌, codes, option_map, Option, Some, None}
 use Rattle.std.specs.declared.vec.Vec.{Vec}
 use Rattle.virtiofs_map.specs.Names.{Passes, client_answer}
 use Rattle.virtiofs_map.specs.Rule.{MappingRule}
-use Rattle.virtiofs_findings.specs.Lists.{listed}
 use Rattle.virtiofs_findings.specs.declared.finding.Finding.{Finding}
-use Rattle.virtiofs_findings.specs.Findings.{of_guest}
+use Rattle.virtiofs_findings.specs.Findings.{told_by}
+use Rattle.virtiofs_findings.specs.declared.finding.About.TheVariants.{Guest}
 use Rattle.virtiofs_findings.specs.declared.finding.Evidence.TheVariants.{Renamed}
 use Rattle.virtiofs_findings.specs.declared.finding.Kind.TheVariants.{AclRenamed}
 use Rattle.virtiofs_findings.specs.declared.names.acl.AclName.{AclName}
@@ -30,7 +30,7 @@ FindsRenamed rules name (Some host) = IsRenamed rules name host.items
 -- what is found of one of the names
 abbrev pub FindsAclName : {A : Type 0} → ℕ → List MappingRule → AclName → List (Finding A) → Type 0
 FindsAclName {A} number rules name found =
-    (host : Option (Vec ℕ A)) × FindsRenamed rules (acl_bytes name) host × (found ≡ listed (λ it. of_guest number AclRenamed (Renamed name it)) host)
+    (host : Option (Vec ℕ A)) × FindsRenamed rules (acl_bytes name) host × (found ≡ told_by (Guest number) AclRenamed (option_map (Renamed name) host))
 
 -- what is found of both
 pub record FindsAclNames {A : Type 0} (number : ℕ) (rules : List MappingRule) (found : List (Finding A)) : Type 0 where

@@ -1,10 +1,9 @@
 -- Options that are advised in place of those of guests: the guests can do no more with them, and less is found.
-use Rattle.std.specs.Prelude.{◌≡◌, ◌≢◌, ◌⊎◌, Bool, ◌&&◌, nat_le, IsTrue, List, [], length, All, Contains, Option, Some, None}
-use Rattle.std.specs.List.{AllZip, list_all, list_any}
+use Rattle.std.specs.Prelude.{◌≡◌, ◌≢◌, ◌⊎◌, Bool, ◌&&◌, nat_le, IsTrue, List, [], length, Contains, Option, Some, None}
+use Rattle.std.specs.List.{AllZip, Any, list_all, list_any}
 use Rattle.std.specs.declared.vec.Vec.{Vec}
 use Rattle.virtiofs_id_audit.specs.declared.spans.Span.{Span}
 use Rattle.virtiofs_findings.specs.Guests.{SetsUp}
-use Rattle.virtiofs_findings.specs.Lists.{AnyHas}
 use Rattle.virtiofs_findings.specs.Narrower.{AreNarrower, SameSet}
 use Rattle.virtiofs_findings.specs.Refusals.{TellsGuests}
 use Rattle.virtiofs_findings.specs.Report.{Finds}
@@ -70,11 +69,11 @@ IsWithin finding other =
 
 -- it is not accepted, and is within none of the others
 abbrev pub IsNew : {A : Type 0} → List Kind → List (Finding A) → Finding A → Type 0
-IsNew accepted others finding = (¬ Contains accepted finding.kind) × (¬ AnyHas (IsWithin finding) others)
+IsNew accepted others finding = (¬ Contains accepted finding.kind) × (¬ Any (IsWithin finding) others)
 
 -- something new is found
 abbrev pub HasNew : {A : Type 0} → List Kind → List (Finding A) → List (Finding A) → Type 0
-HasNew accepted found others = AnyHas (IsNew accepted others) found
+HasNew accepted found others = Any (IsNew accepted others) found
 
 -- less is found: nothing of any kind, accepted or not, that was not found; and something of a kind that is not accepted,
 -- or some of its ids, no more

@@ -89,11 +89,9 @@ likes_of guests = map (alike_to guests) guests
 abbrev pub is_first : Alike → ℕ → Bool
 is_first alike number = alike.first == number
 
-abbrev pub is_second : Alike → ℕ → ℕ → Bool
-is_second alike first number = alike.first == first && alike.second == number
-
 abbrev pub is_told_of : Option Alike → Option Alike → ℕ → ℕ → Bool
-is_told_of (Some one) (Some other) first second = is_first one first && (is_first other second || is_second other first second)
+is_told_of (Some one) (Some other) first second =
+    is_first one first && (is_first other second || (other.first == first && other.second == second))
 is_told_of one other first second = true
 
 abbrev pub is_told : List Alike → ℕ → ℕ → Bool

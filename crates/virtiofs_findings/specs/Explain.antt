@@ -1,5 +1,5 @@
 -- The explanations of --explain.
-use Rattle.std.specs.Prelude.{◌≡◌, ◌≢◌, ◌↔◌, ℕ, List, [], ◌∷◌, Option, Some, None}
+use Rattle.std.specs.Prelude.{◌≡◌, ◌≢◌, ◌↔◌, ℕ, List, [], Option, Some, None}
 use Rattle.std.specs.Borrow.{Bor}
 use Rattle.std.specs.Global.{Global}
 use Rattle.std.specs.List.{AllZip}
@@ -7,6 +7,7 @@ use Rattle.std.specs.declared.vec.Vec.{Vec}
 use Rattle.virtiofs_map.specs.declared.soft_idmap.entry.Direction.{Direction}
 use Rattle.virtiofs_map.specs.declared.soft_idmap.entry.Direction.TheVariants.{GuestToHost, HostToGuest}
 use Rattle.virtiofs_findings.specs.Guests.{SetsUp}
+use Rattle.virtiofs_findings.specs.Lists.{AllZip3}
 use Rattle.virtiofs_findings.specs.Refusals.{IsSomeRefused, TellsGuests}
 use Rattle.virtiofs_findings.specs.declared.guest.Guest.{Guest}
 use Rattle.virtiofs_findings.specs.declared.ids.kind.IdKind.TheVariants.{Users, Groups}
@@ -44,10 +45,7 @@ Explains guest set (NameAsked direction name) it =
 
 -- for each guest, with what it sets up, the explanation for each question, in order
 abbrev pub ExplainsGuests : List Question → List (Guest Global) → List (SetUp Global) → List (Vec Explanation Global) → Type 0
-ExplainsGuests questions [] [] all = all ≡ []
-ExplainsGuests questions (guest ∷ guests) (set ∷ sets) (here ∷ all) =
-    AllZip (Explains guest set) questions here.items × ExplainsGuests questions guests sets all
-ExplainsGuests questions guests sets all = ⊥
+ExplainsGuests questions = AllZip3 (λ guest set here. AllZip (Explains guest set) questions here.items)
 
 -- what is set up, explained and refused of the guests
 pub record ExplainsAll (questions : List Question) (guests : List (Guest Global)) (all : Explained) : Type 0 where

@@ -6,7 +6,7 @@ use Rattle.virtiofs_map.specs.declared.cmdline.IdMap.{IdMap}
 use Rattle.virtiofs_map.specs.declared.idmap.UidMap.{UidMap}
 use Rattle.virtiofs_map.specs.declared.soft_idmap.entry.Direction.{Direction}
 use Rattle.virtiofs_map.specs.declared.soft_idmap.entry.Direction.TheVariants.{GuestToHost, HostToGuest}
-use Rattle.virtiofs_findings.specs.Covers.{CoversNone}
+use Rattle.virtiofs_findings.specs.IdFindings.{CoversNone}
 use Rattle.virtiofs_id_audit.specs.Outside.{MovesBy}
 use Rattle.virtiofs_findings.specs.declared.explain.ids.Layer.{Layer}
 use Rattle.virtiofs_findings.specs.declared.explain.ids.Layers.{Layers}
@@ -36,16 +36,12 @@ MovesAt ranges way id (Some place) (Some moved) =
 MovesAt ranges way id None None = MovesNone ranges way id
 MovesAt ranges way id place moved = ⊥
 
--- what the ranges make of the id; no layer if there are no ranges
-abbrev pub IsByRanges : List UidMap → Way → ℕ → Option Layer → Type 0
+-- what the ranges make of the id that comes to them; no layer if none does, or there are no ranges
+abbrev pub IsByRanges : List UidMap → Way → Option ℕ → Option Layer → Type 0
 IsByRanges [] way id layer = layer ≡ None
-IsByRanges (range ∷ ranges) way id None = ⊥
-IsByRanges (range ∷ ranges) way id (Some layer) = MovesAt (range ∷ ranges) way id layer.place layer.becomes
-
--- the same of an id that is there, on its way out of the namespace; no layer if there is none
-abbrev pub IsByRangesOf : List UidMap → Option ℕ → Option Layer → Type 0
-IsByRangesOf ranges (Some id) layer = IsByRanges ranges Outwards id layer
-IsByRangesOf ranges None layer = layer ≡ None
+IsByRanges (range ∷ ranges) way None layer = layer ≡ None
+IsByRanges (range ∷ ranges) way (Some id) layer =
+    IsSomeAnd layer (λ it. MovesAt (range ∷ ranges) way id it.place it.becomes)
 
 -- what an id of the host is inside the namespace: Linux shows one that no range has as 65534
 abbrev pub inside_of : ℕ → Option Layer → ℕ
@@ -55,11 +51,11 @@ inside_of id (Some layer) = unwrap_or layer.becomes 65534
 -- an id of the guest on its way to the host: first the specifications, then the ranges
 pub record MeetsToHost (specs : List IdMap) (ranges : List UidMap) (id : ℕ) (layers : Layers) : Type 0 where
   pub by_specs : IsBySpecs specs GuestToHost id layers.specs
-  pub by_ranges : IsByRangesOf ranges layers.specs.becomes layers.ranges
+  pub by_ranges : IsByRanges ranges Outwards layers.specs.becomes layers.ranges
 
 -- an id of the host on its way to the guest: first the ranges, then the specifications
 pub record MeetsToGuest (specs : List IdMap) (ranges : List UidMap) (id : ℕ) (layers : Layers) : Type 0 where
-  pub by_ranges : IsByRanges ranges Inwards id layers.ranges
+  pub by_ranges : IsByRanges ranges Inwards (Some id) layers.ranges
   pub by_specs : IsBySpecs specs HostToGuest (inside_of id layers.ranges) layers.specs
 
 -- the layers that an id meets in that direction

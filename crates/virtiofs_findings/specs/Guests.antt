@@ -19,6 +19,8 @@ use Rattle.virtiofs_options.specs.declared.guest.Sandbox.{Sandbox}
 use Rattle.virtiofs_options.specs.declared.guest.Sandbox.TheVariants.{Namespace, Chroot, Nothing}
 use Rattle.virtiofs_options.specs.declared.starter.By.{By}
 use Rattle.virtiofs_options.specs.declared.starter.By.TheVariants.{Root, Another, InNamespace}
+use Rattle.virtiofs_findings.specs.declared.ids.kind.IdKind.{IdKind}
+use Rattle.virtiofs_findings.specs.declared.ids.kind.IdKind.TheVariants.{Users, Groups}
 use Rattle.virtiofs_findings.specs.declared.setup.IdSetUp.{IdSetUp}
 use Rattle.virtiofs_findings.specs.declared.setup.NoStart.{NoStart}
 use Rattle.virtiofs_findings.specs.declared.setup.NoStart.TheVariants.{MapsAsRoot, MapsOutside, ChrootByUser}
@@ -71,12 +73,19 @@ pub record RunsIn {A : Type 0} (bounds : Option (Bounds A)) (own_alone : Bool) (
   pub fault : FindsFault bounds (taken (said_own bounds) set.written.items) set.fault
   pub differs : IsTrue set.differs ↔ Differ bounds (taken (said_own bounds) set.written.items)
 
--- what bounds the users and the groups of the daemon of a guest, if it is said who runs it
-abbrev pub users_of : {A : Type 0} → Guest A → Option (Bounds A)
-users_of guest = option_map (λ runner. runner.now.users) guest.runner
+-- what bounds the ids of a kind of the daemon of a guest, if it is said who runs it
+abbrev pub bounds_of : {A : Type 0} → IdKind → Guest A → Option (Bounds A)
+bounds_of Users guest = option_map (λ runner. runner.now.users) guest.runner
+bounds_of Groups guest = option_map (λ runner. runner.now.groups) guest.runner
 
-abbrev pub groups_of : {A : Type 0} → Guest A → Option (Bounds A)
-groups_of guest = option_map (λ runner. runner.now.groups) guest.runner
+-- the texts of its specifications for ids of a kind, and those of its ranges
+abbrev pub specs_of : {A : Type 0} → IdKind → Guest A → List (List ℕ)
+specs_of Users guest = texts_of guest.options.translate_uid.items
+specs_of Groups guest = texts_of guest.options.translate_gid.items
+
+abbrev pub written_of : {A : Type 0} → IdKind → Guest A → List (List ℕ)
+written_of Users guest = texts_of guest.options.uid_map.items
+written_of Groups guest = texts_of guest.options.gid_map.items
 
 -- the process of the daemon of a guest, if it runs already
 abbrev pub process_of : {A : Type 0} → Guest A → Option ℕ
@@ -98,7 +107,7 @@ has_namespaces guest = is_namespaces (sandbox_of (text_in guest.options.sandbox)
 -- the daemon can act as some ids alone: as those of its ranges, in a sandbox that is made of namespaces; or, if it is not
 -- root who starts it, as the one that it runs as
 abbrev pub acts_as_own : {A : Type 0} → Guest A → Bool
-acts_as_own guest = (has_namespaces guest && has_ranges guest) || nat_lt 0 (own_of (users_of guest))
+acts_as_own guest = (has_namespaces guest && has_ranges guest) || nat_lt 0 (own_of (bounds_of Users guest))
 
 -- another user than root starts the daemon, of whom it is not said who it is: words say so, or it has ranges of a
 -- namespace, with which root does not start
@@ -126,15 +135,16 @@ no_start false Nothing starter = None
 abbrev pub no_start_of : {A : Type 0} → Guest A → Option NoStart
 no_start_of guest =
     if is_some (process_of guest) then None
-    else no_start (has_ranges guest) (sandbox_of (text_in guest.options.sandbox)) (said_own (users_of guest))
+    else no_start (has_ranges guest) (sandbox_of (text_in guest.options.sandbox)) (said_own (bounds_of Users guest))
 
 -- what the texts set up for ids of a kind; nothing where one of them is refused
-abbrev pub ReadsIds : {A : Type 0} → Option (Bounds A) → Bool → Bool → List (List ℕ) → List (List ℕ)
-    → Option (IdSetUp A) → Type 0
-ReadsIds bounds by_another own_alone texts ranges (Some set) =
-    AllSay texts set.map × Accepted set.map × ReadsRanges by_another ranges (Some set.written.items)
-    × RunsIn bounds own_alone set
-ReadsIds bounds by_another own_alone texts ranges None = RefusesSpecs texts ⊎ RefusesRanges by_another ranges
+abbrev pub ReadsIds : {A : Type 0} → IdKind → Guest A → Option (IdSetUp A) → Type 0
+ReadsIds kind guest (Some set) =
+    AllSay (specs_of kind guest) set.map × Accepted set.map
+    × ReadsRanges (is_by_another guest) (written_of kind guest) (Some set.written.items)
+    × RunsIn (bounds_of kind guest) (acts_as_own guest) set
+ReadsIds kind guest None =
+    RefusesSpecs (specs_of kind guest) ⊎ RefusesRanges (is_by_another guest) (written_of kind guest)
 
 -- the rules that the text says, and how many are written
 abbrev pub ReadsText : {A : Type 0} → List ℕ → NamesSetUp A → Type 0
@@ -156,10 +166,8 @@ Translates guest = (guest.options.translate_uid.items ≢ []) ⊎ (guest.options
 
 -- what the options of the daemon of a guest set up
 pub record SetsUp {A : Type 0} (guest : Guest A) (set : SetUp A) : Type 0 where
-  pub users : ReadsIds (users_of guest) (is_by_another guest) (acts_as_own guest) (texts_of guest.options.translate_uid.items)
-      (texts_of guest.options.uid_map.items) set.users
-  pub groups : ReadsIds (groups_of guest) (is_by_another guest) (acts_as_own guest) (texts_of guest.options.translate_gid.items)
-      (texts_of guest.options.gid_map.items) set.groups
+  pub users : ReadsIds Users guest set.users
+  pub groups : ReadsIds Groups guest set.groups
   pub names : ReadsNames guest.options.xattrmap set.names
   pub passes : set.passes ≡ passes guest
   pub acl : set.posix_acl ≡ guest.options.posix_acl

@@ -1,10 +1,11 @@
 -- What an audit of the ids of users, or of groups, finds.
-use Rattle.std.specs.Prelude.{◌≡◌, ◌≢◌, ◌↔◌, ℕ, ◌<◌, IsTrue, List, [], ◌∷◌, Option, Some, None}
+use Rattle.std.specs.Prelude.{◌≡◌, ◌≢◌, ◌↔◌, ℕ, ◌<◌, IsTrue, List, [], ◌∷◌, Contains, Option, Some, None}
 use Rattle.virtiofs_id_audit.specs.IdAudit.{IsLeastId, GoesTo, WanderTo, IsAstray, GoesInto, Hold, AreRuns}
+use Rattle.virtiofs_map.specs.Mapping.{Covers}
 use Rattle.virtiofs_map.specs.declared.cmdline.IdMap.{IdMap}
+use Rattle.virtiofs_map.specs.declared.soft_idmap.entry.Direction.{Direction}
 use Rattle.virtiofs_map.specs.declared.soft_idmap.entry.Direction.TheVariants.{GuestToHost}
 use Rattle.virtiofs_map.specs.declared.idmap.UidMap.{UidMap}
-use Rattle.virtiofs_findings.specs.Covers.{CoversNone}
 use Rattle.virtiofs_id_audit.specs.Namespace.{IsLacking, IsRoot, StandsFor}
 use Rattle.virtiofs_findings.specs.declared.ids.found.IdsFound.{IdsFound}
 use Rattle.virtiofs_findings.specs.declared.ids.found.IdFindings.{IdFindings}
@@ -43,6 +44,10 @@ ActAsRoot specs ranges = FindsAll (GoesInto specs (IsRoot ranges)) (TellsHost sp
 pub record FindsIds {A : Type 0} (specs : List IdMap) (ranges : List UidMap) (found : IdFindings A) : Type 0 where
   pub astray : FindsAll (IsAstrayBut specs (IsLacking ranges)) (TellsAstray specs) found.astray
   pub lacking : FindsAll (GoesInto specs (IsLacking ranges)) (TellsHost specs) found.lacking
+
+-- none of the specifications covers the id
+abbrev pub CoversNone : List IdMap → Direction → ℕ → Type 0
+CoversNone specs direction id = (spec : IdMap) → Contains specs spec → ¬ Covers spec direction id
 
 -- the ids are mapped: some specification is given, and the namespace of these ranges has more ids than the daemon's own
 pub record AreMapped (specs : List IdMap) (ranges : List UidMap) : Type 0 where

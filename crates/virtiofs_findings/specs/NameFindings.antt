@@ -1,12 +1,13 @@
 -- What an audit of the names of attributes finds.
-use Rattle.std.specs.Prelude.{◌≡◌, ◌⊎◌, ◌↔◌, ℕ, ◌<◌, List, [], ◌∷◌, ◌++◌, map, codes, Contains}
-use Rattle.std.specs.Prelude.{Option, Some, None}
+use Rattle.std.specs.Prelude.{◌≡◌, ◌⊎◌, ℕ, ◌+◌, ◌<◌, ◌≤◌, List, [], ◌++◌, length, codes, option_map, Option, Some, None}
+use Rattle.std.specs.List.{range_with_len}
 use Rattle.virtiofs_map.specs.Audit.{IsLeast, AnswersLeast, Within, IsLost, IsStray, Terminated, Decides}
 use Rattle.virtiofs_map.specs.Rule.{MappingRule}
-use Rattle.virtiofs_findings.specs.Lists.{listed, AreRising}
-use Rattle.virtiofs_findings.specs.WrittenRules.{IsPartOf}
 use Rattle.virtiofs_findings.specs.declared.finding.Finding.{Finding}
-use Rattle.virtiofs_findings.specs.Findings.{of_guest}
+use Rattle.virtiofs_findings.specs.Findings.{told_by, Each}
+use Rattle.virtiofs_findings.specs.declared.finding.About.{About}
+use Rattle.virtiofs_findings.specs.declared.finding.About.TheVariants.{Guest}
+use Rattle.virtiofs_findings.specs.declared.finding.Evidence.{Evidence}
 use Rattle.virtiofs_findings.specs.declared.finding.Evidence.TheVariants.{Plain, Name, Rule}
 use Rattle.virtiofs_findings.specs.declared.finding.Kind.{Kind}
 use Rattle.virtiofs_findings.specs.declared.finding.Kind.TheVariants.{NoRule, NotListed, ListedElsewhere, IdleRule}
@@ -26,36 +27,35 @@ FindsName bad None = (name : List ℕ) → ¬ bad name
 FindsName bad (Some found) = IsLeastName bad found
 
 -- it is the finding of the least bad name, or there is none and nothing is found
-abbrev pub FindsLeast : {A : Type 0} → (LeastName A → Finding A) → (List ℕ → Type 0) → List (Finding A) → Type 0
-FindsLeast {A} finding bad found = (least : Option (LeastName A)) × FindsName bad least × (found ≡ listed finding least)
+abbrev pub FindsLeast : {A : Type 0} → About → Kind → (List ℕ → Type 0) → List (Finding A) → Type 0
+FindsLeast {A} about kind bad found =
+    (least : Option (LeastName A)) × FindsName bad least × (found ≡ told_by about kind (option_map Name least))
+
+-- The rule at the place `part` of a map is one of those that the written rule at `place` stands for. The map has
+-- `written` written rules: each stands for the rule at its own place, and the last one for all from its place on.
+abbrev pub IsPartOf : List MappingRule → ℕ → ℕ → ℕ → Type 0
+IsPartOf rules written place part = (place ≤ part) × (part < length rules) × ((part ≡ place) ⊎ (place + 1 ≡ written))
 
 -- some rule that the written rule at that place stands for decides a name
 abbrev pub DecidesWritten : List MappingRule → ℕ → ℕ → Type 0
 DecidesWritten rules written place = (part : ℕ) × IsPartOf rules written place part × Decides rules part
 
--- the written rule at that place decides no name
-abbrev pub IsIdle : List MappingRule → ℕ → ℕ → Type 0
-IsIdle rules written place = (place < written) × (¬ DecidesWritten rules written place)
+-- nothing is found where that holds, and else the finding of that kind about the guest of that number
+abbrev pub FindsUnless : {A : Type 0} → Type 0 → ℕ → Kind → Evidence A → List (Finding A) → Type 0
+FindsUnless Holds number kind evidence found =
+    (Holds × (found ≡ [])) ⊎ ((¬ Holds) × (found ≡ told_by (Guest number) kind (Some evidence)))
 
--- the written rule at that place, counted from 0, decides no name
-abbrev pub idle_rule : {A : Type 0} → ℕ → ℕ → Finding A
-idle_rule number place = of_guest number IdleRule (Rule place)
+-- the written rule at that place, counted from 0, is found unless it decides a name; so is each, in order
+abbrev pub FindsIdleAt : {A : Type 0} → ℕ → List MappingRule → ℕ → ℕ → ℕ → List (Finding A) → Type 0
+FindsIdleAt number rules written nth place =
+    FindsUnless (DecidesWritten rules written place) number IdleRule (Rule place)
 
--- that names are found, the least of which is told
-abbrev pub name_found : {A : Type 0} → ℕ → Kind → LeastName A → Finding A
-name_found number kind it = of_guest number kind (Name it)
-
--- these are the written rules that decide no name, in order, each once
-pub record FindsIdle {A : Type 0} (number : ℕ) (rules : List MappingRule) (written : ℕ) (found : List (Finding A)) : Type 0 where
-  pub places : List ℕ
-  pub idle : (place : ℕ) → Contains places place ↔ IsIdle rules written place
-  pub order : AreRising places
-  pub are : found ≡ map (idle_rule number) places
+abbrev pub FindsIdle : {A : Type 0} → ℕ → List MappingRule → ℕ → List (Finding A) → Type 0
+FindsIdle number rules written = Each (FindsIdleAt number rules written) 1 (range_with_len 0 written)
 
 -- it is found that some names have no rule, unless each has one
 abbrev pub FindsUnruled : {A : Type 0} → ℕ → List MappingRule → List (Finding A) → Type 0
-FindsUnruled number rules found =
-    ((found ≡ []) × Terminated rules) ⊎ ((found ≡ of_guest number NoRule Plain ∷ []) × (¬ Terminated rules))
+FindsUnruled number rules = FindsUnless (Terminated rules) number NoRule Plain
 
 -- of the names under these rules, which are that many written ones: whether each has a rule, which is not listed back,
 -- which is listed under a name that leads elsewhere, and which rules decide none
@@ -65,7 +65,7 @@ pub record FindsNames {A : Type 0} (number : ℕ) (rules : List MappingRule) (wr
   pub of_stray : List (Finding A)
   pub of_idle : List (Finding A)
   pub unruled : FindsUnruled number rules of_unruled
-  pub lost : FindsLeast (name_found number NotListed) (IsLost rules) of_lost
-  pub stray : FindsLeast (name_found number ListedElsewhere) (IsStray rules) of_stray
+  pub lost : FindsLeast (Guest number) NotListed (IsLost rules) of_lost
+  pub stray : FindsLeast (Guest number) ListedElsewhere (IsStray rules) of_stray
   pub idle : FindsIdle number rules written of_idle
   pub whole : found ≡ of_unruled ++ of_lost ++ of_stray ++ of_idle

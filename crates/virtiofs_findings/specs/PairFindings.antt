@@ -5,15 +5,13 @@ use Rattle.virtiofs_map.specs.Audit.{IsSeen, IsShared}
 use Rattle.virtiofs_map.specs.Rule.{Bad, MappingRule, Okay}
 use Rattle.virtiofs_findings.specs.AclNames.{acl_bytes}
 use Rattle.virtiofs_findings.specs.IdFindings.{FindsMeeting}
-use Rattle.virtiofs_findings.specs.Lists.{listed}
 use Rattle.virtiofs_findings.specs.NameFindings.{FindsLeast}
 use Rattle.virtiofs_findings.specs.declared.finding.Finding.{Finding}
-use Rattle.virtiofs_findings.specs.Findings.{of_pair}
-use Rattle.virtiofs_findings.specs.declared.finding.Evidence.TheVariants.{Ids, Name}
-use Rattle.virtiofs_findings.specs.declared.finding.Kind.{Kind}
+use Rattle.virtiofs_findings.specs.Findings.{told_by}
+use Rattle.virtiofs_findings.specs.declared.finding.About.TheVariants.{Pair}
+use Rattle.virtiofs_findings.specs.declared.finding.Evidence.TheVariants.{Ids}
 use Rattle.virtiofs_findings.specs.declared.names.acl.AclName.{AclName}
 use Rattle.virtiofs_findings.specs.declared.names.acl.AclName.TheVariants.{Access, Default}
-use Rattle.virtiofs_findings.specs.declared.names.found.LeastName.{LeastName}
 use Rattle.virtiofs_findings.specs.declared.pairs.Passing.{Passing}
 use Rattle.virtiofs_findings.specs.declared.finding.Kind.TheVariants.{IdOfBoth, ShownToOther, NameOfBoth}
 use Rattle.virtiofs_findings.specs.declared.ids.found.IdsFound.{IdsFound}
@@ -32,11 +30,7 @@ FindsBoth Finds (Some one) (Some other) found = Finds one other found
 abbrev pub FindsIdsOfBoth : {A : Type 0} → ℕ → ℕ → IdKind → IdSetUp A → IdSetUp A → List (Finding A) → Type 0
 FindsIdsOfBoth {A} number number_2 kind one other found =
     (met : Option (IdsFound A)) × FindsMeeting one.map one.ranges.items other.map other.ranges.items met
-    × (found ≡ listed (λ it. of_pair number number_2 IdOfBoth (Ids kind false it)) met)
-
--- that names are found, the least of which is told
-abbrev pub pair_name_found : {A : Type 0} → ℕ → ℕ → Kind → LeastName A → Finding A
-pair_name_found first second kind it = of_pair first second kind (Name it)
+    × (found ≡ told_by (Pair number number_2) IdOfBoth (option_map (Ids kind false) met))
 
 -- names of each that lists of the other show, and names that lead to one name of the host
 pub record FindsNamesBetween {A : Type 0} (number number_2 : ℕ) (one other : List MappingRule)
@@ -44,9 +38,9 @@ pub record FindsNamesBetween {A : Type 0} (number number_2 : ℕ) (one other : L
   pub of_seen : List (Finding A)
   pub of_seen_back : List (Finding A)
   pub of_shared : List (Finding A)
-  pub seen : FindsLeast (pair_name_found number number_2 ShownToOther) (IsSeen one other) of_seen
-  pub seen_back : FindsLeast (pair_name_found number_2 number ShownToOther) (IsSeen other one) of_seen_back
-  pub shared : FindsLeast (pair_name_found number number_2 NameOfBoth) (IsShared one other) of_shared
+  pub seen : FindsLeast (Pair number number_2) ShownToOther (IsSeen one other) of_seen
+  pub seen_back : FindsLeast (Pair number_2 number) ShownToOther (IsSeen other one) of_seen_back
+  pub shared : FindsLeast (Pair number number_2) NameOfBoth (IsShared one other) of_shared
   pub whole : found ≡ of_seen ++ of_seen_back ++ of_shared
 
 -- the rule that passes each name as it is

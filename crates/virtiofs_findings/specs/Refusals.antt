@@ -2,17 +2,18 @@
 use Rattle.std.specs.Prelude.{◌≡◌, ◌⊎◌, ⊤, ℕ, Bool, List, [], ◌∷◌, ◌++◌, take, slice_get, string_bytes, IsSomeAnd}
 use Rattle.std.specs.Prelude.{Option, Some, None}
 use Rattle.std.specs.Borrow.{Bor}
+use Rattle.std.specs.declared.string.String.{String}
 use Rattle.std.specs.List.{AllZip}
 use Rattle.std.specs.Str.{chars}
 use Rattle.virtiofs_map.specs.Build.{RangeOverflow, Intersects, build_fault_of}
 use Rattle.virtiofs_map.specs.NamespaceText.{NamespaceFault, HasNamespaceFault}
 use Rattle.virtiofs_map.specs.Printed.{build_error_text, rules_error_text}
 use Rattle.virtiofs_map.specs.RulesFault.{RulesFault, HasRulesFault, rules_fault_of}
-use Rattle.virtiofs_map.specs.Specifications.{texts_of, SpecsFault, Unread, Unbuilt, HasSpecsFault}
+use Rattle.virtiofs_map.specs.Specifications.{SpecsFault, Unread, Unbuilt, HasSpecsFault}
 use Rattle.virtiofs_map.specs.declared.idmap.UidMap.{UidMap}
 use Rattle.virtiofs_map.specs.declared.soft_idmap.errors.IdMapBuildError.{IdMapBuildError}
 use Rattle.virtiofs_map.specs.declared.xattrmap.errors.Error.{Error}
-use Rattle.virtiofs_findings.specs.Guests.{SaysRange, HasNoRange, LeaveUnknown, RefusesSpecs, RefusesRules, IsRefused, is_by_another}
+use Rattle.virtiofs_findings.specs.Guests.{SaysRange, HasNoRange, LeaveUnknown, RefusesSpecs, RefusesRules, IsRefused, is_by_another, specs_of, written_of}
 use Rattle.virtiofs_findings.specs.Lists.{AnyTwoHave}
 use Rattle.virtiofs_findings.specs.declared.guest.Guest.{Guest}
 use Rattle.virtiofs_findings.specs.declared.ids.kind.IdKind.{IdKind}
@@ -29,14 +30,13 @@ IsSomeRefused guests sets = AnyTwoHave IsRefused guests sets
 
 -- ---- one refusal
 
--- that text of that guest is refused
-pub record IsAt {A : Type 0} (number : ℕ) (what : Refused) (refusal : Refusal A) : Type 0 where
-  pub is_guest : refusal.guest ≡ number
-  pub is_what : refusal.what ≡ what
+-- that text of that guest is refused, for that reason
+abbrev pub refusal_of : {A : Type 0} → ℕ → Refused → String A → Refusal A
+refusal_of number what why = record { guest = number; what = what; why = why }
 
 -- that one alone is told; the reason may be any text
 abbrev pub TellsPlace : {A : Type 0} → ℕ → Refused → List (Refusal A) → Type 0
-TellsPlace {A} number what told = (refusal : Refusal A) × IsAt number what refusal × (told ≡ refusal ∷ [])
+TellsPlace {A} number what told = (why : String A) × (told ≡ refusal_of number what why ∷ [])
 
 -- ---- specifications
 
@@ -47,18 +47,17 @@ place_of (Unbuilt (RangeOverflow spec index direction range_end)) = index
 place_of (Unbuilt (Intersects spec index direction)) = index
 
 -- where no map is made of the specifications, the reason is the one that the library gives
-abbrev pub IsReason : {A : Type 0} → SpecsFault → Refusal A → Type 0
-IsReason (Unread index fault) refusal = ⊤
-IsReason (Unbuilt fault) refusal = (error : IdMapBuildError) × (build_fault_of error ≡ Some fault)
-    × (string_bytes refusal.why ≡ build_error_text error)
+abbrev pub IsReason : SpecsFault → List ℕ → Type 0
+IsReason (Unread index fault) why = ⊤
+IsReason (Unbuilt fault) why =
+    (error : IdMapBuildError) × (build_fault_of error ≡ Some fault) × (why ≡ build_error_text error)
 
 -- the specification at fault is refused
 pub record TellsSpecsFault {A : Type 0} (number : ℕ) (kind : IdKind) (fault : SpecsFault) (told : List (Refusal A)) :
     Type 0 where
-  pub refusal : Refusal A
-  pub at : IsAt number (Spec kind (place_of fault)) refusal
-  pub why : IsReason fault refusal
-  pub alone : told ≡ refusal ∷ []
+  pub why : String A
+  pub reason : IsReason fault (string_bytes why)
+  pub alone : told ≡ refusal_of number (Spec kind (place_of fault)) why ∷ []
 
 -- what is told of the texts of specifications: nothing where they are not refused, and else of their first fault
 abbrev pub TellsSpecs : {A : Type 0} → ℕ → IdKind → List (List ℕ) → List (Refusal A) → Type 0
@@ -87,12 +86,11 @@ TellsRanges number kind by_another texts told =
     ⊎ (LeaveUnknown by_another texts × TellsPlace number (Own kind) told)
 
 -- what is told of ids of a kind: first of the specifications, then of the ranges
-pub record TellsIds {A : Type 0} (number : ℕ) (kind : IdKind) (by_another : Bool) (specs ranges : List (List ℕ))
-    (told : List (Refusal A)) : Type 0 where
+pub record TellsIds {A : Type 0} (number : ℕ) (kind : IdKind) (guest : Guest A) (told : List (Refusal A)) : Type 0 where
   pub of_specs : List (Refusal A)
   pub of_ranges : List (Refusal A)
-  pub tells_specs : TellsSpecs number kind specs of_specs
-  pub tells_ranges : TellsRanges number kind by_another ranges of_ranges
+  pub tells_specs : TellsSpecs number kind (specs_of kind guest) of_specs
+  pub tells_ranges : TellsRanges number kind (is_by_another guest) (written_of kind guest) of_ranges
   pub whole : told ≡ of_specs ++ of_ranges
 
 -- ---- rules
@@ -101,13 +99,11 @@ pub record TellsIds {A : Type 0} (number : ℕ) (kind : IdKind) (by_another : Bo
 pub record TellsRulesFault {A : Type 0} (number : ℕ) (text : List ℕ) (told : List (Refusal A)) : Type 0 where
   pub error : Error A
   pub fault : RulesFault
-  pub refusal : Refusal A
+  pub why : String A
   pub about : rules_fault_of error ≡ Some fault
   pub has : HasRulesFault text fault
-  pub guest : refusal.guest ≡ number
-  pub at : refusal.what ≡ Rules
-  pub why : string_bytes refusal.why ≡ rules_error_text error
-  pub alone : told ≡ refusal ∷ []
+  pub reason : string_bytes why ≡ rules_error_text error
+  pub alone : told ≡ refusal_of number Rules why ∷ []
 
 -- what is told of a text of rules: nothing where it is not refused, and else of its first fault
 abbrev pub TellsRules : {A : Type 0} → ℕ → List ℕ → List (Refusal A) → Type 0
@@ -125,10 +121,8 @@ pub record TellsGuest {A : Type 0} (number : ℕ) (guest : Guest A) (told : List
   pub of_users : List (Refusal A)
   pub of_groups : List (Refusal A)
   pub of_names : List (Refusal A)
-  pub users : TellsIds number Users (is_by_another guest) (texts_of guest.options.translate_uid.items)
-      (texts_of guest.options.uid_map.items) of_users
-  pub groups : TellsIds number Groups (is_by_another guest) (texts_of guest.options.translate_gid.items)
-      (texts_of guest.options.gid_map.items) of_groups
+  pub users : TellsIds number Users guest of_users
+  pub groups : TellsIds number Groups guest of_groups
   pub names : TellsNames number guest.options.xattrmap of_names
   pub whole : told ≡ of_users ++ of_groups ++ of_names
 

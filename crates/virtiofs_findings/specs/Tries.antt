@@ -1,9 +1,10 @@
 -- Guests with other options in place of theirs, as they are tried.
-use Rattle.std.specs.Prelude.{◌≡◌, ⊤, ℕ, ◌&&◌, List, [], ◌∷◌, map, string_bytes, Option, Some, None}
+use Rattle.std.specs.Prelude.{◌≡◌, ℕ, ◌&&◌, List, map, string_bytes, Option, Some, None}
 use Rattle.std.specs.Borrow.{Bor}
 use Rattle.std.specs.declared.string.String.{String}
 use Rattle.std.specs.declared.vec.Vec.{Vec}
 use Rattle.virtiofs_options.specs.GuestOptions.{text_in}
+use Rattle.virtiofs_findings.specs.Lists.{AllZip3}
 use Rattle.virtiofs_findings.specs.Narrower.{SameRest}
 use Rattle.virtiofs_findings.specs.declared.advice.options.Options.{Options}
 use Rattle.virtiofs_findings.specs.declared.guest.Guest.{Guest}
@@ -36,6 +37,4 @@ pub record IsWith {A : Type 0} (given : Guest A) (options : Options A) (other : 
 
 -- each of the guests with the options at its place
 abbrev pub AreWith : {A : Type 0} → List (Guest A) → List (Options A) → List (Guest A) → Type 0
-AreWith [] [] [] = ⊤
-AreWith (guest ∷ given) (options ∷ all) (other ∷ others) = IsWith guest options other × AreWith given all others
-AreWith given all others = ⊥
+AreWith = AllZip3 IsWith

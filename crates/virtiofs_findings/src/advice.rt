@@ -18,10 +18,9 @@ mod rules;
 use crate::audit::{Audited, audit};
 use crate::finding::{Finding, Kind};
 use crate::guest::Guest;
-use crate::guests::set_up_all;
-use crate::setup::SetUp;
+use crate::setup::{SetUp, set_up_all};
 use better::finds_less;
-use mended::{PARTS, Parts, mended_options, unwanted_ids};
+use mended::{PARTS, mended_options, unwanted_ids};
 use narrower::are_narrower;
 use options::{Options, guests_of};
 use std::alloc::{AllocError, Allocator};
@@ -53,7 +52,7 @@ pub enum Trial<'a, A: Allocator> {
 /// The options of all guests where some parts of them are mended.
 fn options_of<A: Allocator + Copy>(
     alloc: A,
-    parts: Parts,
+    parts: (bool, bool),
     accepted: &[Kind],
     guests: &[Guest<'_, A>],
     all: &Audited<A>,

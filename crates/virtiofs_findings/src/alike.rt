@@ -1,6 +1,6 @@
 //! Guests with the same options. What is said of one of them is true of all, and is said once.
 ghost use Rattle.std.specs.Prelude.{◌≡◌, ◌<◌, ◌≤◌, length, position, IfOk, IfSome};
-ghost use Rattle.virtiofs_findings.specs.AlikeGuests.{are_both, is_same_by, is_same_runner, is_same_starter, have_same_options, have_same_texts, next_alike, count_alike, alike_to, likes_of, is_first, is_second, is_told};
+ghost use Rattle.virtiofs_findings.specs.AlikeGuests.{are_both, is_same_by, is_same_runner, is_same_starter, have_same_options, have_same_texts, next_alike, count_alike, alike_to, likes_of, is_first, is_told};
 
 use crate::guest::Guest;
 use std::alloc::{AllocError, Allocator};
@@ -147,13 +147,6 @@ pub fn is_first(alike: Alike, number: usize) -> bool
     alike.first == number
 }
 
-/// Whether the guest of a number is the second, and the first has that other number.
-fn is_second(alike: Alike, first: usize, number: usize) -> bool
-    ensures { result ≡ is_second alike first number }
-{
-    alike.first == first && alike.second == number
-}
-
 /// Whether what is found of a guest, which has both numbers, or between two, is told: of guests with
 /// the same options, that of the first is, and that between the first two.
 pub fn is_told(likes: &[Alike], first: usize, second: usize) -> bool
@@ -165,5 +158,6 @@ pub fn is_told(likes: &[Alike], first: usize, second: usize) -> bool
     ) else {
         return true;
     };
-    is_first(*one, first) && (is_first(*other, second) || is_second(*other, first, second))
+    let is_second = other.first == first && other.second == second;
+    is_first(*one, first) && (is_first(*other, second) || is_second)
 }

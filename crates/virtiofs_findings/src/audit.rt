@@ -1,5 +1,5 @@
 //! The audit of all guests: what their options set up, and what is found.
-ghost use Rattle.std.specs.Prelude.{◌↔◌, ◌≤◌, length, Contains, IfOk, IsTrue, OnOk};
+ghost use Rattle.std.specs.Prelude.{◌↔◌, Contains, IfOk, IsTrue, OnOk};
 ghost use Rattle.virtiofs_findings.specs.Audited.{Audits};
 ghost use Rattle.virtiofs_findings.specs.Findings.{Each, IsFound, HasAccepted};
 ghost use Rattle.virtiofs_findings.specs.Lists.{Adds};
@@ -8,11 +8,10 @@ ghost use Rattle.virtiofs_findings.specs.Report.{FindsGuest, FindsWithEarlier, F
 
 use crate::finding::{Finding, Kind};
 use crate::guest::Guest;
-use crate::guests::set_up_all;
 use crate::pairs::{Passing, passing_rules, push_pair};
 use crate::refusal::Refusal;
 use crate::report::push_guest;
-use crate::setup::SetUp;
+use crate::setup::{SetUp, set_up_all};
 use std::alloc::{AllocError, Allocator};
 
 /// What the options of all guests set up, what is found, and what is refused.
@@ -24,27 +23,6 @@ pub struct Audited<A: Allocator> {
     pub findings: Vec<Finding<A>, A>,
     /// Guest by guest, the first fault of each option that is refused.
     pub refusals: Vec<Refusal<A>, A>,
-}
-
-/// Adds what is found between the guest of that number and each of those before it.
-fn push_pairs<A: Allocator + Copy>(
-    alloc: A,
-    found: &mut Vec<Finding<A>, A>,
-    sets: &[SetUp<A>],
-    number: usize,
-    set: &SetUp<A>,
-    passing: &Passing<A>,
-) -> Result<(), AllocError>
-    requires passing { IsPassing passing.now }
-    requires counted { 1 ≤ number }
-    requires within { number ≤ length sets.now }
-    ensures { OnOk result
-        (Adds (FindsWithEarlier sets.now number set.now) found.old.items found.new.items) }
-{
-    for place in 0..number - 1 {
-        push_pair(alloc, found, place + 1, number, &sets[place], set, passing)?;
-    }
-    Ok(())
 }
 
 /// Adds what is found of each guest by itself.
@@ -62,7 +40,7 @@ fn push_guests<A: Allocator + Copy>(
     Ok(())
 }
 
-/// Adds what is found between each two guests.
+/// Adds what is found between each guest and each of those before it.
 fn push_each_two<A: Allocator + Copy>(
     alloc: A,
     found: &mut Vec<Finding<A>, A>,
@@ -74,7 +52,11 @@ fn push_each_two<A: Allocator + Copy>(
         (Adds (Each (FindsWithEarlier sets.now) 1 sets.now) found.old.items found.new.items) }
 {
     for place in 0..sets.len() {
-        push_pairs(alloc, found, sets, place + 1, &sets[place], passing)?;
+        let set = &sets[place];
+        for before in 0..place {
+            let (first, second) = (before + 1, place + 1);
+            push_pair(alloc, found, first, second, &sets[before], set, passing)?;
+        }
     }
     Ok(())
 }

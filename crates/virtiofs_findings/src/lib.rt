@@ -1,7 +1,7 @@
 //! What the options of virtiofsd set up for guests, what is wrong with it, and which other options mend
 //! that: as values. What writes them stands above.
 //!
-//! - [`setup`] reads the texts of one guest, and [`guests`] those of all: maps of ids, the ranges of the
+//! - [`setup`] reads the texts of each [`guest`]: maps of ids, the ranges of the
 //!   namespace that the daemon runs in ([`ids`]), and rules for names. Of each option that is refused it
 //!   tells the first fault ([`refusal`]). [`alike`] says which guests have the same options.
 //! - [`audit`] goes through all guests, by themselves and by two. What it finds is a [`finding`]: about
@@ -16,7 +16,6 @@ pub mod audit;
 pub mod explain;
 pub mod finding;
 pub mod guest;
-pub mod guests;
 pub mod ids;
 pub mod names;
 mod pairs;

@@ -1,39 +1,17 @@
 //! What is found between two guests of one directory.
-ghost use Rattle.std.specs.Prelude.{◌≡◌, ◌++◌, ◌∷◌, [], IfOk, OnOk, option_map};
-ghost use Rattle.virtiofs_findings.specs.Findings.{of_pair};
+ghost use Rattle.std.specs.Prelude.{◌≡◌, IfOk, OnOk, option_map};
 ghost use Rattle.virtiofs_findings.specs.Lists.{Adds};
-ghost use Rattle.virtiofs_findings.specs.NameFindings.{FindsLeast};
-ghost use Rattle.virtiofs_map.specs.Audit.{HasFault};
-ghost use Rattle.virtiofs_findings.specs.PairFindings.{FindsPair, FindsBoth, FindsIdsOfBoth, FindsNamesBetween, IsPassing, pair_name_found, rules_met};
+ghost use Rattle.virtiofs_findings.specs.PairFindings.{FindsPair, FindsBoth, FindsIdsOfBoth, FindsNamesBetween, IsPassing, rules_met};
 
-use crate::finding::{About, Evidence, Finding, Kind};
+use crate::finding::{About, Finding, Kind};
 use crate::ids::kind::IdKind;
 use crate::ids::meeting::meeting_of;
-use crate::names::audits::least_name;
+use crate::names::audits::push_name;
+use crate::report::{push_found, told_ids};
 use crate::setup::{IdSetUp, SetUp};
 use std::alloc::{AllocError, Allocator};
 use virtiofs_map::audit::NameFault;
 use virtiofs_map::xattrmap::XattrMap;
-
-/// Adds the finding of that kind about the two guests of these numbers.
-fn push_of_pair<A: Allocator>(
-    found: &mut Vec<Finding<A>, A>,
-    first: usize,
-    second: usize,
-    kind: Kind,
-    evidence: Evidence<A>,
-) -> Result<(), AllocError>
-    ensures { OnOk result
-        (found.new.items ≡ found.old.items ++ of_pair first second kind evidence ∷ []) }
-{
-    let about = About::Pair(first, second);
-    found.push(Finding {
-        about,
-        kind,
-        evidence,
-    })?;
-    Ok(())
-}
 
 /// Adds the ids of the first guest that are ids of the host which the second reaches too. Guests of
 /// which a text is refused are not compared.
@@ -53,40 +31,12 @@ fn push_meeting<A: Allocator + Copy>(
     let (Some(one), Some(other)) = (one, other) else {
         return Ok(());
     };
-    let Some(ids) = meeting_of(alloc, one, other)? else {
-        return Ok(());
-    };
-    let evidence = Evidence::Ids {
-        ids: kind,
-        in_namespace: false,
-        found: ids,
-    };
-    push_of_pair(found, first, second, Kind::IdOfBoth, evidence)
-}
-
-/// Adds the least name of one guest that has this fault beside the rules of the other, if there is
-/// one.
-fn push_name<A: Allocator + Copy>(
-    alloc: A,
-    found: &mut Vec<Finding<A>, A>,
-    first: usize,
-    second: usize,
-    kind: Kind,
-    fault: NameFault,
-    rules: &XattrMap<A>,
-    others: &XattrMap<A>,
-) -> Result<(), AllocError>
-    ensures { OnOk result (Adds
-        (FindsLeast (pair_name_found first second kind) (HasFault fault rules.now others.now))
-        found.old.items found.new.items) }
-{
-    let Some(least) = least_name(alloc, fault, rules, others)? else {
-        return Ok(());
-    };
-    push_of_pair(found, first, second, kind, Evidence::Name(least))
+    let ids = told_ids(kind, false, meeting_of(alloc, one, other)?);
+    push_found(found, About::Pair(first, second), Kind::IdOfBoth, ids)
 }
 
 /// Adds what is found of the names of two guests that meet these rules.
+#[tactic(auto, using(std::proofs::Common::append_assoc))]
 fn push_between<A: Allocator + Copy>(
     alloc: A,
     found: &mut Vec<Finding<A>, A>,
@@ -98,11 +48,12 @@ fn push_between<A: Allocator + Copy>(
     ensures { OnOk result (Adds (FindsNamesBetween first second one.now other.now)
         found.old.items found.new.items) }
 {
+    let (there, back) = (About::Pair(first, second), About::Pair(second, first));
     let (shown, shared) = (Kind::ShownToOther, Kind::NameOfBoth);
     let (seen, both) = (NameFault::Seen, NameFault::Shared);
-    push_name(alloc, found, first, second, shown, seen, one, other)?;
-    push_name(alloc, found, second, first, shown, seen, other, one)?;
-    push_name(alloc, found, first, second, shared, both, one, other)
+    push_name(alloc, found, there, shown, seen, one, other)?;
+    push_name(alloc, found, back, shown, seen, other, one)?;
+    push_name(alloc, found, there, shared, both, one, other)
 }
 
 /// The rules by which guests are compared that have none.

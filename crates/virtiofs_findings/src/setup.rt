@@ -1,19 +1,20 @@
-//! What the texts of a guest set up, and which of them are refused.
+//! What the texts of guests set up, and which of them are refused.
 ghost use Rattle.std.specs.Prelude.{◌≡◌, ◌≢◌, ◌++◌, ◌∷◌, ◌↔◌, [], IfOk, IfErr, IfSome, IfNone, IsTrue, IsFalse, OnOk, option_map, Some, None, string_bytes};
+ghost use Rattle.std.specs.List.{AllZip};
 ghost use Rattle.std.specs.Str.{chars};
 ghost use Rattle.virtiofs_map.specs.Refusal.{OutOfMemoryOr};
 ghost use Rattle.virtiofs_map.specs.RulesFault.{RulesFault, HasRulesFault, rules_fault_of};
 ghost use Rattle.std.specs.Option.{option_map};
-ghost use Rattle.virtiofs_findings.specs.Guests.{ReadsSpecs, SayRanges, ReadsRanges, ReadsIds, RunsIn, is_by_another, users_of, groups_of, process_of, has_ranges, acts_as_own, no_start, no_start_of, RefusesRules, ReadsText, ReadsNames, SetsUp, Translates, passes};
+ghost use Rattle.virtiofs_findings.specs.Guests.{ReadsSpecs, SayRanges, ReadsRanges, ReadsIds, RunsIn, is_by_another, bounds_of, specs_of, written_of, process_of, has_ranges, acts_as_own, no_start, no_start_of, RefusesRules, ReadsText, ReadsNames, SetsUp, Translates, passes};
 ghost use Rattle.virtiofs_map.specs.Printed.{build_error_text, rules_error_text};
 ghost use Rattle.virtiofs_findings.specs.Lists.{Adds};
-ghost use Rattle.virtiofs_findings.specs.Refusals.{IsAt, place_of, TellsSpecsFault, TellsSpecs, TellsNoRange, TellsRanges, TellsIds, TellsNames, TellsGuest};
+ghost use Rattle.virtiofs_findings.specs.Refusals.{refusal_of, place_of, TellsSpecsFault, TellsSpecs, TellsNoRange, TellsRanges, TellsIds, TellsNames, TellsGuest, TellsGuests};
 ghost use Rattle.virtiofs_map.specs.Specifications.{SpecsFault, specs_fault_of, texts_of};
 
 use crate::guest::Guest;
 use crate::ids::Ids;
 use crate::ids::kind::IdKind;
-use crate::ids::namespace::{differ, own_of, ranges_of, said_own, taken};
+use crate::ids::namespace::{differ, ranges_of, said_own, taken};
 use crate::ids::ranges::{RangeFound, first_fault};
 use crate::refusal::{Refusal, Refused};
 use std::alloc::{AllocError, Allocator};
@@ -93,9 +94,8 @@ fn tell<A: Allocator>(
     what: Refused,
     why: String<A>,
 ) -> Result<(), AllocError>
-    ensures { OnOk result ((refusal : Refusal A) × IsAt guest what refusal
-        × (string_bytes refusal.why ≡ string_bytes why)
-        × (refusals.new.items ≡ refusals.old.items ++ refusal ∷ [])) }
+    ensures { OnOk result
+        (refusals.new.items ≡ refusals.old.items ++ refusal_of guest what why ∷ []) }
 {
     refusals.push(Refusal { guest, what, why })?;
     Ok(())
@@ -117,19 +117,7 @@ fn place_of<A: Allocator>(error: &SpecsError<A>) -> Option<usize>
     }
 }
 
-/// What the library says of specifications of which no map is made.
-fn build_sentence<A: Allocator + Copy>(
-    alloc: A,
-    error: &IdMapBuildError,
-) -> Result<String<A>, AllocError>
-    ensures { IfOk result (λ why. string_bytes why ≡ build_error_text error.now) }
-{
-    let mut why = String::new(alloc);
-    write!(why, "{error}")?;
-    Ok(why)
-}
-
-/// What it says of their texts.
+/// What the library says of texts of specifications of which no map is made.
 fn specs_sentence<A: Allocator + Copy>(
     alloc: A,
     error: &SpecsError<A>,
@@ -139,7 +127,11 @@ fn specs_sentence<A: Allocator + Copy>(
 {
     match error {
         SpecsError::Spec { cause, .. } => format!(in alloc; "{cause}"),
-        SpecsError::Build(build) => build_sentence(alloc, build),
+        SpecsError::Build(build) => {
+            let mut why = String::new(alloc);
+            write!(why, "{build}")?;
+            Ok(why)
+        }
     }
 }
 
@@ -257,32 +249,48 @@ fn in_namespace<A: Allocator + Copy>(
     })
 }
 
-/// What texts set up for ids of a kind, or nothing where one is refused.
+/// The specifications of a guest for ids of a kind.
+fn specs_of<'g, A: Allocator>(guest: &'g Guest<'g, A>, kind: IdKind) -> &'g [&'g str]
+    ensures { texts_of result.now ≡ specs_of kind guest.now }
+{
+    match kind {
+        IdKind::Users => guest.options.translate_uid.as_slice(),
+        IdKind::Groups => guest.options.translate_gid.as_slice(),
+    }
+}
+
+/// The ranges of its options.
+fn written_of<'g, A: Allocator>(guest: &'g Guest<'g, A>, kind: IdKind) -> &'g [&'g str]
+    ensures { texts_of result.now ≡ written_of kind guest.now }
+{
+    match kind {
+        IdKind::Users => guest.options.uid_map.as_slice(),
+        IdKind::Groups => guest.options.gid_map.as_slice(),
+    }
+}
+
+/// What the texts of a guest set up for ids of a kind, or nothing where one is refused.
 fn read_ids<A: Allocator + Copy>(
     alloc: A,
     refusals: &mut Vec<Refusal<A>, A>,
     number: usize,
     kind: IdKind,
-    bounds: Option<&Bounds<A>>,
-    by_another: bool,
-    own_alone: bool,
-    specs: &[&str],
-    ranges: &[&str],
+    guest: &Guest<'_, A>,
 ) -> Result<Option<IdSetUp<A>>, AllocError>
-    ensures read { IfOk result (ReadsIds (option_map (λ it. it.now) bounds.entry) by_another
-        own_alone (texts_of specs.now) (texts_of ranges.now)) }
-    ensures says { OnOk result (Adds
-        (TellsIds number kind by_another (texts_of specs.now) (texts_of ranges.now))
+    ensures read { IfOk result (ReadsIds kind guest.now) }
+    ensures says { OnOk result (Adds (TellsIds number kind guest.now)
         refusals.old.items refusals.new.items) }
 {
-    let map = read_specs(alloc, refusals, number, kind, specs)?;
-    let ranges = read_ranges(alloc, refusals, number, kind, by_another, ranges)?;
+    let map = read_specs(alloc, refusals, number, kind, specs_of(guest, kind))?;
+    let (texts, another) = (written_of(guest, kind), is_by_another(guest));
+    let ranges = read_ranges(alloc, refusals, number, kind, another, texts)?;
     let Some(map) = map else {
         return Ok(None);
     };
     let Some(written) = ranges else {
         return Ok(None);
     };
+    let (bounds, own_alone) = (bounds_of(guest, kind), acts_as_own(guest));
     Ok(Some(in_namespace(alloc, bounds, own_alone, map, written)?))
 }
 
@@ -339,11 +347,8 @@ fn read_names<A: Allocator + Copy>(
             if !tells_fault(&error) {
                 return Err(AllocError);
             }
-            refusals.push(Refusal {
-                guest: number,
-                what: Refused::Rules,
-                why: rules_sentence(alloc, &error)?,
-            })?;
+            let why = rules_sentence(alloc, &error)?;
+            tell(refusals, number, Refused::Rules, why)?;
             Ok(None)
         }
     }
@@ -378,23 +383,14 @@ fn acl_untranslated<A: Allocator>(guest: &Guest<'_, A>) -> bool
     guest.options.posix_acl && !guest.options.acl_flag && translates(guest)
 }
 
-/// What bounds the users of the daemon of a guest, if it is said who runs it.
-fn users_of<'g, A: Allocator>(guest: &'g Guest<'g, A>) -> Option<&'g Bounds<A>>
-    ensures { option_map (λ it. it.now) result ≡ users_of guest.now }
+/// What bounds the ids of a kind of the daemon of a guest, if it is said who runs it.
+fn bounds_of<'g, A: Allocator>(guest: &'g Guest<'g, A>, kind: IdKind) -> Option<&'g Bounds<A>>
+    ensures { option_map (λ it. it.now) result ≡ bounds_of kind guest.now }
 {
-    match guest.runner {
-        Some(runner) => Some(&runner.users),
-        None => None,
-    }
-}
-
-/// What bounds its groups.
-fn groups_of<'g, A: Allocator>(guest: &'g Guest<'g, A>) -> Option<&'g Bounds<A>>
-    ensures { option_map (λ it. it.now) result ≡ groups_of guest.now }
-{
-    match guest.runner {
-        Some(runner) => Some(&runner.groups),
-        None => None,
+    match (guest.runner, kind) {
+        (Some(runner), IdKind::Users) => Some(&runner.users),
+        (Some(runner), IdKind::Groups) => Some(&runner.groups),
+        (None, _) => None,
     }
 }
 
@@ -421,7 +417,7 @@ fn acts_as_own<A: Allocator + Copy>(guest: &Guest<'_, A>) -> bool
     ensures { result ≡ acts_as_own guest.now }
 {
     matches!(guest.options.kept_apart(), Sandbox::Namespace) && has_ranges(guest)
-        || own_of(users_of(guest)) > 0
+        || said_own(bounds_of(guest, IdKind::Users)).unwrap_or(0) > 0
 }
 
 /// Whether another user than root starts the daemon of a guest, of whom it is not said who it is: words say
@@ -442,7 +438,7 @@ fn no_start_of<A: Allocator + Copy>(guest: &Guest<'_, A>) -> Option<NoStart>
     no_start(
         has_ranges(guest),
         guest.options.kept_apart(),
-        said_own(users_of(guest)),
+        said_own(bounds_of(guest, IdKind::Users)),
     )
 }
 
@@ -460,7 +456,7 @@ fn no_start(has_ranges: bool, sandbox: Sandbox, starter: Option<u32>) -> Option<
 }
 
 /// What the texts of the guest of that number set up.
-pub(crate) fn set_up<A: Allocator + Copy>(
+fn set_up<A: Allocator + Copy>(
     alloc: A,
     refusals: &mut Vec<Refusal<A>, A>,
     number: usize,
@@ -470,28 +466,8 @@ pub(crate) fn set_up<A: Allocator + Copy>(
     ensures says { OnOk result (Adds (TellsGuest number guest.now)
         refusals.old.items refusals.new.items) }
 {
-    let users = read_ids(
-        alloc,
-        refusals,
-        number,
-        IdKind::Users,
-        users_of(guest),
-        is_by_another(guest),
-        acts_as_own(guest),
-        guest.options.translate_uid.as_slice(),
-        guest.options.uid_map.as_slice(),
-    )?;
-    let groups = read_ids(
-        alloc,
-        refusals,
-        number,
-        IdKind::Groups,
-        groups_of(guest),
-        is_by_another(guest),
-        acts_as_own(guest),
-        guest.options.translate_gid.as_slice(),
-        guest.options.gid_map.as_slice(),
-    )?;
+    let users = read_ids(alloc, refusals, number, IdKind::Users, guest)?;
+    let groups = read_ids(alloc, refusals, number, IdKind::Groups, guest)?;
     let names = read_names(alloc, refusals, number, guest.options.xattrmap)?;
     Ok(SetUp {
         users,
@@ -504,4 +480,22 @@ pub(crate) fn set_up<A: Allocator + Copy>(
         no_start: no_start_of(guest),
         process: process_of(guest),
     })
+}
+
+/// What the options of each guest set up. Guest by guest, the first fault of each option that is
+/// refused goes to `refusals`.
+pub fn set_up_all<A: Allocator + Copy>(
+    alloc: A,
+    refusals: &mut Vec<Refusal<A>, A>,
+    guests: &[Guest<'_, A>],
+) -> Result<Vec<SetUp<A>, A>, AllocError>
+    ensures sets_up { IfOk result (λ sets. AllZip SetsUp guests.now sets.items) }
+    ensures says { OnOk result (Adds (TellsGuests 1 guests.now)
+        refusals.old.items refusals.new.items) }
+{
+    let mut sets = Vec::new(alloc);
+    for place in 0..guests.len() {
+        sets.push(set_up(alloc, refusals, place + 1, &guests[place])?)?;
+    }
+    Ok(sets)
 }

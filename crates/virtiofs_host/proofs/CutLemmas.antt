@@ -1,10 +1,11 @@
 -- Texts that are cut at a byte.
-use Rattle.std.proofs.Common.{◌≡◌, ◌≢◌, ℕ, ◌+◌, ◌-◌, ◌<◌, eqb, List, [], ◌∷◌, ◌++◌, length, take, drop, get_or, false, All, refl, ap, ◌∙◌, arith}
+use Rattle.std.proofs.Common.{◌≡◌, ◌≢◌, ℕ, ◌+◌, ◌-◌, ◌<◌, eqb, List, [], ◌∷◌, ◌++◌, length, take, drop, get_or, false, true, All, Bor, Option, None, Some, is_some, refl, ap, ◌∙◌, arith}
 use Rattle.std.proofs.lemmas.Bool.Decides.{nat_tests}
 use Rattle.std.proofs.lemmas.List.{take-append-drop, drop_more, get_or-take, length-take, take_rest}
 use Rattle.std.proofs.lemmas.List.Elements.{All-from_get_or, All-weaker, recursion_from_All}
-use Rattle.std.proofs.lemmas.List.Splits.{slice_split_at, slice_split_none}
+use Rattle.std.proofs.lemmas.List.Splits.{length-slice_split, slice_split_at, slice_split_none}
 use Rattle.virtiofs_map.specs.Separator.{Lacks, split_at_each}
+use Rattle.virtiofs_host.specs.CutParts.{parts_left}
 
 -- a text with a byte c does not lack it
 pub Lacks-not : (c : ℕ) (a x : List ℕ) → Lacks c (a ++ c ∷ x) → ⊥
@@ -51,3 +52,14 @@ pub cut_parts : (c : ℕ) (text : List ℕ) (place : ℕ) → place < length tex
     ≡ take place text ∷ split_at_each c (take (length text - (place + 1)) (drop (place + 1) text))
 cut_parts c text place below here none = ap (split_at_each c) (cut_whole c text place below here)
     ∙ slice_split_at (λ b. eqb b c) (take place text) c _ (grind (arith, passes_not, before)) (grind (arith, nat_tests))
+
+-- what is left has a part at least
+pub some_parts : (c : ℕ) (left : Option (Bor (List ℕ))) → is_some left ≡ true → parts_left c left ≢ []
+some_parts c None some = cc
+some_parts c (Some text) some = λ same. omega (arith, ap length same, length-slice_split (λ b. eqb b c) text.now)
+
+-- what is cut off first
+pub ruleset first_cut = (whole_lacks, whole_part, front_lacks, cut_whole, cut_parts)
+
+-- that it is one alone
+pub ruleset one_cut = (Lacks-not, cut_one)

@@ -4,7 +4,7 @@ use Rattle.virtiofs_map.specs.Separator.{Lacks}
 use Rattle.virtiofs_map.specs.declared.idmap.UidMap.{UidMap}
 use Rattle.virtiofs_host.specs.IdMapText.{SaysRange, BeginsRange}
 use Rattle.virtiofs_host.proofs.CutLemmas.{cut_one}
-use Rattle.virtiofs_host.proofs.SequenceLemmas.{IsRead}
+use Rattle.virtiofs_host.proofs.SequenceLemmas.{IsRead, read_all}
 
 -- a range of three numbers
 abbrev made : ℕ → ℕ → ℕ → UidMap
@@ -28,3 +28,6 @@ pub no_range : (text line after : List ℕ) → text ≡ line ++ 10 ∷ after �
 no_range text line after whole lacks none range rest begins =
     let cut = cut_one 10 begins.line line rest after (sym begins.whole ∙ whole) begins.one_line lacks in
     none range (grind arith)
+
+-- ranges that are read one after another
+pub ruleset ranges_read = (read_all, BeginsRange-read)

@@ -2,7 +2,6 @@ mod AllowedLemmas
 mod CommandLineLemmas
 mod CutLemmas
 mod DecimalLemmas
-mod FieldLemmas
 mod IdMapLemmas
 mod LinesLemmas
 mod SequenceLemmas

@@ -57,3 +57,6 @@ stops_here Begins text values rest place before counted some wrong = grind arith
 pub all_here : {V : Type 0} (Begins : List ℕ → V → List ℕ → Type 0) (text : List ℕ) (values : List V) (rest : List ℕ)
     → ThenRest Begins text values rest → true ≡ (length rest == 0) → AreAll Begins text values
 all_here Begins text values rest before none = grind (arith, nil_from_length, nat_tests)
+
+-- values that are read one after another
+pub ruleset read_all = (ThenRest-more, all_here, stuck_once)

@@ -2,10 +2,8 @@ pub mod Allowed
 pub mod CommandLine
 pub mod CutParts
 pub mod Decimal
-pub mod IdMapParts
 pub mod IdMapText
 pub mod Lines
-pub mod RunAs
 pub mod Runners
 pub mod Sequence
 pub mod Status

@@ -1,10 +1,11 @@
--- Who runs a daemon, as the files of a host say.
-use Rattle.std.specs.Prelude.{◌≡◌, ◌==◌, ◌⊎◌, ⊤, ◌&&◌, ℕ, List, [], Bool, true, false, not, nat_lt, Option, Some, None, option_map, codes}
+-- Who runs a daemon, as the files of a host say, and the texts of the user who starts one.
+use Rattle.std.specs.Prelude.{◌≡◌, ◌==◌, ◌<◌, ◌⊎◌, ⊤, ◌&&◌, ℕ, List, [], ◌∷◌, Bool, true, false, not, nat_lt, Option, Some, None, option_map, codes}
 use Rattle.std.specs.Option.{option_or}
 use Rattle.std.specs.declared.vec.Vec.{Vec}
 use Rattle.virtiofs_map.specs.declared.idmap.UidMap.{UidMap}
+use Rattle.virtiofs_host.specs.Decimal.{IsDecimal}
 use Rattle.virtiofs_host.specs.IdMapText.{SaysRanges}
-use Rattle.virtiofs_host.specs.Lines.{lines, AllSaid, FirstSaid}
+use Rattle.virtiofs_host.specs.Lines.{colon_fields, lines, AllSaid, FirstSaid}
 use Rattle.virtiofs_host.specs.Status.{SaysEffective, MaySet, sets_uids, sets_gids}
 use Rattle.virtiofs_host.specs.SubordinateIds.{GivesIds}
 use Rattle.virtiofs_host.specs.declared.runner.Bounds.{Bounds}
@@ -15,6 +16,20 @@ use Rattle.virtiofs_host.specs.declared.runner.Runner.{Runner}
 use Rattle.virtiofs_host.specs.declared.runner.Shown.{Shown}
 use Rattle.virtiofs_host.specs.declared.subordinate.SubIds.{SubIds}
 use Rattle.virtiofs_host.specs.declared.users.User.{User}
+
+-- the text is an id in decimal: 4294967295 is none
+abbrev pub IsId : List ℕ → ℕ → Type 0
+IsId text id = IsDecimal text id × (id < 4294967295)
+
+-- the fields are the user's number, and then the group's, if one is said
+abbrev pub SayBoth : List (List ℕ) → ℕ → Option ℕ → Type 0
+SayBoth fields uid None = (user : List ℕ) × (fields ≡ user ∷ []) × IsId user uid
+SayBoth fields uid (Some gid) =
+    (user group : List ℕ) × (fields ≡ user ∷ group ∷ []) × IsId user uid × IsId group gid
+
+-- the text is `UID` or `UID:GID`
+abbrev pub SaysUser : List ℕ → RunAs → Type 0
+SaysUser text user = SayBoth (colon_fields text) user.uid user.gid
 
 -- the name of a user in the files of subordinate ids; of one that the host does not know, a name that no line has
 abbrev pub name_of : Option User → List ℕ

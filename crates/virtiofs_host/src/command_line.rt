@@ -9,6 +9,7 @@ use crate::error::ReadError;
 use std::alloc::Allocator;
 
 /// The first word of a text that is not empty, and what follows it.
+#[tactic(auto, using(crate::proofs::CutLemmas::one_cut))]
 fn first_word(text: &[u8]) -> Option<(&str, &[u8])>
     requires { 0 < length text.now }
     ensures begins { IfSome result (λ p. BeginsWord text.now p.0.now p.1.now) }
@@ -29,6 +30,7 @@ fn first_word(text: &[u8]) -> Option<(&str, &[u8])>
 ///
 /// The place of the first word, counted from 0, that is not UTF-8; or a request for memory was
 /// refused.
+#[tactic(auto, using(crate::proofs::CommandLineLemmas::words_read))]
 pub fn read_command_line<'a, A: Allocator>(
     alloc: A,
     text: &'a [u8],

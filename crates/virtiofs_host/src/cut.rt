@@ -16,6 +16,7 @@ fn first_at(text: &[u8], at: u8) -> Option<usize>
 
 /// The part of a text before the first byte `at`, and what follows that byte; of a text without
 /// that byte the whole text, and nothing.
+#[tactic(auto, using(crate::proofs::CutLemmas::first_cut))]
 pub(crate) fn cut(text: &[u8], at: u8) -> (&[u8], Option<&[u8]>)
     ensures whole { MatchOption result.1 (text.now ≡ result.0.now)
         (λ rest. text.now ≡ result.0.now ++ at ∷ rest.now) }

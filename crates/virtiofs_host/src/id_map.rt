@@ -3,7 +3,7 @@ ghost use Rattle.std.specs.Prelude.{◌≡◌, ◌<◌, ◌∷◌, ℕ, List, []
 ghost use Rattle.virtiofs_map.specs.Refusal.{IsOutOfMemory, OutOfMemoryOr};
 ghost use Rattle.virtiofs_map.specs.declared.idmap.UidMap.{UidMap};
 ghost use Rattle.virtiofs_host.specs.IdMapText.{SaysRange, BeginsRange, SaysRanges, HasWrongLine};
-ghost use Rattle.virtiofs_host.specs.IdMapParts.{words_left};
+ghost use Rattle.virtiofs_host.specs.CutParts.{words_left};
 ghost use Rattle.virtiofs_host.specs.Sequence.{wrong_place};
 
 use crate::cut::cut;
@@ -68,6 +68,7 @@ fn first_range(text: &[u8]) -> Option<(UidMap, &[u8])>
 ///
 /// The place of the first line, counted from 0, that says no range or that no line feed ends; or a
 /// request for memory was refused.
+#[tactic(auto, using(crate::proofs::IdMapLemmas::ranges_read))]
 pub fn read_id_map<A: Allocator>(alloc: A, text: &[u8]) -> Result<Vec<UidMap, A>, ReadError>
     ensures read { IfOk result (λ ranges. SaysRanges text.now ranges.items) }
     ensures complete { (ranges : List UidMap) → SaysRanges text.now ranges

@@ -1,8 +1,7 @@
 //! Who runs a daemon, and what of the host bounds the namespace that it runs in.
 ghost use Rattle.std.specs.Prelude.{◌≡◌, ◌⊎◌, ℕ, IfSome, IfNone, IfOk, IfErr};
 ghost use Rattle.virtiofs_host.specs.declared.runner.NotShown.TheVariants.{OutOfMemory};
-ghost use Rattle.virtiofs_host.specs.RunAs.{IsId, SaysUser};
-ghost use Rattle.virtiofs_host.specs.Runners.{name_of, is_own_group, GivesTo, group_of, Starts, is_alone, BoundsShown, SaysNoRanges, IsShown, IsNotShown};
+ghost use Rattle.virtiofs_host.specs.Runners.{IsId, SaysUser, name_of, is_own_group, GivesTo, group_of, Starts, is_alone, BoundsShown, SaysNoRanges, IsShown, IsNotShown};
 
 use crate::cut::cut;
 use crate::decimal::decimal;
@@ -65,6 +64,7 @@ fn id_of(text: &[u8]) -> Option<u32>
 }
 
 /// Reads `UID` or `UID:GID`, both in decimal.
+#[tactic(auto, using(crate::proofs::CutLemmas::some_parts))]
 pub fn read_run_as(text: &str) -> Option<RunAs>
     ensures says { IfSome result (SaysUser text.now) }
     ensures none { IfNone result ((user : RunAs) → ¬ SaysUser text.now user) }

@@ -29,6 +29,7 @@ impl<'a> LineReader<'a> for IdsReader<'_> {
 
     ghost says = { λ reader. GivesIds reader.name.now reader.uid };
 
+    #[tactic(auto, using(crate::proofs::CutLemmas::some_parts))]
     fn of_line(&self, line: &'a [u8]) -> Option<SubIds> {
         let (owner, rest) = cut(line, b':');
         let (first, rest) = cut(rest?, b':');

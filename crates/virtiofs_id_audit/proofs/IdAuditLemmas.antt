@@ -1,8 +1,7 @@
 -- The answers of the audits of ids.
-use Rattle.std.proofs.Common.{◌≡◌, ◌≢◌, ◌↔◌, inl, inr, ℕ, ◌+◌, ◌≤◌, List, [], ◌∷◌, Option, refl, sym, arith, Vec}
-use Rattle.std.proofs.Common.{Result, Ok, Err, IfOk, rules}
+use Rattle.std.proofs.Common.{◌≡◌, ◌≢◌, ◌↔◌, inl, inr, ℕ, ◌+◌, ◌≤◌, List, [], ◌∷◌, Option, refl, sym, arith}
+use Rattle.std.proofs.Common.{rules}
 use Rattle.std.proofs.lemmas.Bool.{cases_eq, cases_order}
-use Rattle.std.proofs.lemmas.Bool.Decides.{nat_tests}
 use Rattle.virtiofs_id_audit.specs.IdAudit.{IsLeastId, IsLeastIfAny, GoesTo, ComesBack, IsAstray, IsAlone, IsShared}
 use Rattle.virtiofs_id_audit.specs.IdAudit.{SharesWith, SharedAs, GoesInto, Between, ReachedBy, AreIdsApart, Hold}
 use Rattle.virtiofs_id_audit.specs.IdAuditParts.{AreImages, times}

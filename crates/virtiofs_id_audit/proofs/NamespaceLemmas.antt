@@ -1,11 +1,10 @@
 -- Which ids the ranges of a namespace have.
-use Rattle.std.proofs.Common.{◌≡◌, ◌≢◌, ◌⊎◌, ◌↔◌, inl, inr, ℕ, ◌<◌, ◌≤◌, true, false, List, [], ◌∷◌, ◌++◌, length, get_or, refl}
+use Rattle.std.proofs.Common.{◌≡◌, ◌≢◌, ◌⊎◌, ◌↔◌, inl, inr, ℕ, ◌<◌, ◌≤◌, false, List, [], ◌∷◌, ◌++◌, length, get_or, refl}
 use Rattle.std.proofs.Common.{arith}
 use Rattle.std.specs.List.{All}
 use Rattle.std.proofs.lemmas.List.Elements.{All-contains, Contains-get_or}
-use Rattle.virtiofs_id_audit.specs.ExtentParts.{IsRun}
 use Rattle.virtiofs_id_audit.specs.IdAudit.{Hold}
-use Rattle.virtiofs_id_audit.specs.IdAuditParts.{HoldBelow}
+use Rattle.virtiofs_id_audit.specs.IdAuditParts.{HoldBelow, IsRun}
 use Rattle.virtiofs_id_audit.specs.Namespace.{Has, HasSome, HasNone, IsLacking}
 use Rattle.virtiofs_id_audit.specs.declared.spans.Run.{Run}
 use Rattle.virtiofs_id_audit.specs.declared.spans.Span.{Span}

@@ -1,13 +1,12 @@
 -- Ids that spans have, and ids that are found run by run.
-use Rattle.std.proofs.Common.{◌≡◌, ◌↔◌, inl, inr, ℕ, ◌+◌, ◌-◌, ◌<◌, ◌≤◌, true, false, ltb, List, [], ◌∷◌, ◌++◌, length}
+use Rattle.std.proofs.Common.{◌≡◌, inl, inr, ℕ, ◌+◌, ◌<◌, ◌≤◌, true, false, ltb, List, [], ◌∷◌, ◌++◌, length}
 use Rattle.std.proofs.Common.{get_or, ◌∙◌, arith, rules}
 use Rattle.std.specs.List.Sorted.{IsPartitionPoint}
 use Rattle.std.proofs.lemmas.Bool.{cases_lt}
 use Rattle.std.proofs.lemmas.Bool.Decides.{nat_tests}
 use Rattle.std.proofs.lemmas.List.{get_or_default}
-use Rattle.virtiofs_id_audit.specs.ExtentParts.{IsRun}
 use Rattle.virtiofs_id_audit.specs.IdAudit.{Hold, AreRuns}
-use Rattle.virtiofs_id_audit.specs.IdAuditParts.{HoldBelow}
+use Rattle.virtiofs_id_audit.specs.IdAuditParts.{HoldBelow, IsRun}
 use Rattle.virtiofs_id_audit.specs.declared.spans.Run.{Run}
 use Rattle.virtiofs_id_audit.specs.declared.spans.Span.{Span}
 use Rattle.virtiofs_id_audit.proofs.ApartLemmas.{AreRuns-firsts}

@@ -1,4 +1,3 @@
-pub mod ExtentParts
 pub mod IdAudit
 pub mod IdAuditParts
 pub mod Mending

@@ -1,6 +1,6 @@
 //! Which ids inside a user namespace its ranges have.
 ghost use Rattle.std.specs.Prelude.{◌↔◌, ℕ, IfOk};
-ghost use Rattle.virtiofs_id_audit.specs.ExtentParts.{IsRun};
+ghost use Rattle.virtiofs_id_audit.specs.IdAuditParts.{IsRun};
 ghost use Rattle.virtiofs_id_audit.specs.IdAudit.{Hold};
 ghost use Rattle.virtiofs_id_audit.specs.Namespace.{Has, HasSome, HasNone, IsLacking};
 

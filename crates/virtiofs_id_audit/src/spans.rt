@@ -1,5 +1,5 @@
 //! Ids that follow one another.
-ghost use Rattle.virtiofs_id_audit.specs.ExtentParts.{IsRun};
+ghost use Rattle.virtiofs_id_audit.specs.IdAuditParts.{IsRun};
 ghost use Rattle.virtiofs_id_audit.specs.IdAudit.{Hold, AreRuns};
 
 /// Ids of the host that follow one another, by their numbers. There are none where `last` is below

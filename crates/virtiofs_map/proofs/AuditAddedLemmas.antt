@@ -7,8 +7,7 @@ use Rattle.std.specs.Option.{option_map_or, option_and_then, is_none}
 use Rattle.std.proofs.lemmas.Bool.{and_parts, cond_both}
 use Rattle.std.proofs.lemmas.List.{append-nil}
 use Rattle.std.proofs.lemmas.List.Elements.{All-nil, All-head, All-tail, All-from_get_or}
-use Rattle.virtiofs_map.specs.AuditParts.{added_prefix, is_hidden}
-use Rattle.virtiofs_map.specs.GatheredParts.{added_prefix_of}
+use Rattle.virtiofs_map.specs.AuditParts.{added_prefix, is_hidden, added_prefix_of}
 use Rattle.virtiofs_map.specs.MapRule.{IsName}
 use Rattle.virtiofs_map.specs.Names.{begins, fits, deciding, Passes, IsUnterminated, answer_by, client_answer}
 use Rattle.virtiofs_map.specs.Names.{HostAnswer, IsListed, IsHidden, IsUndecided, host_answer_by, host_answer}

@@ -6,15 +6,14 @@ use Rattle.std.specs.List.{cons_option}
 use Rattle.std.proofs.lemmas.Bool.{and_parts, and_from, cases_Bool, eqb-true, false≢true}
 use Rattle.std.proofs.lemmas.List.Elements.{All-take, Contains-append_right}
 use Rattle.std.proofs.Math.Seq.{take-append_seam}
-use Rattle.virtiofs_map.specs.AuditParts.{added_prefix, IsCut, parts, IsGuestName, IsHostName, IsTried}
+use Rattle.virtiofs_map.specs.AuditParts.{added_prefix, IsCut, added_prefix_of, part_of, parts}
 use Rattle.virtiofs_map.specs.FirstRule.{acts, pattern}
-use Rattle.virtiofs_map.specs.GatheredParts.{added_prefix_of, part_of}
 use Rattle.virtiofs_map.specs.MapRule.{IsName}
 use Rattle.virtiofs_map.specs.Names.{begins, fits, deciding}
 use Rattle.virtiofs_map.specs.Rule.{MappingRule}
-use Rattle.virtiofs_map.specs.declared.audit.gathered.Part.TheVariants.{Key, Added, Host}
+use Rattle.virtiofs_map.specs.declared.audit.gathered.Part.TheVariants.{Pattern, Added}
 use Rattle.virtiofs_map.specs.declared.xattrmap.scopes.Side.{Side}
-use Rattle.virtiofs_map.specs.declared.xattrmap.scopes.Side.TheVariants.{Client, Server}
+use Rattle.virtiofs_map.specs.declared.xattrmap.scopes.Side.TheVariants.{Server}
 use Rattle.virtiofs_map.proofs.AuditAddedLemmas.{adds_by}
 use Rattle.virtiofs_map.proofs.BeginsLemmas.{begins_itself, begins_trans, begins_split, deciding_fits, deciding-find}
 
@@ -125,30 +124,30 @@ find_same p q [] same = refl
 find_same p q (x ∷ xs) same =
     rw (same x (contains_first x xs), find_same p q xs (λ y c. same y (contains_later x xs y c))) refl
 
-fits_same : (side : Side) (name c : List ℕ) (rule : MappingRule)
-    → (acts side rule ≡ true → begins (pattern side rule) name ≡ begins (pattern side rule) c)
-    → fits side name rule ≡ fits side c rule
-fits_same side name c rule same = grind (arith, cases_Bool)
-
--- the patterns of the rules that act on the side begin both names or neither
-pub same_rule : (side : Side) (rules : List MappingRule) (name c : List ℕ)
-    → ((rule : MappingRule) → Contains rules rule → acts side rule ≡ true
-    → begins (pattern side rule) name ≡ begins (pattern side rule) c)
-    → deciding side rules name ≡ deciding side rules c
-same_rule side rules name c same =
-    deciding-find side rules name
-    ∙ find_same (fits side name) (fits side c) rules (λ rule among. fits_same side name c rule (same rule among))
-    ∙ sym (deciding-find side rules c)
+fits_less : (side : Side) (front : List ℕ) (last : ℕ) (rule : MappingRule)
+    → (acts side rule ≡ true → pattern side rule ≢ front ++ last ∷ [])
+    → fits side (front ++ last ∷ []) rule ≡ fits side front rule
+fits_less side front last rule other = grind (arith, cases_Bool, begins_less)
 
 -- no pattern of the rules that act on the side is the name
 pub decides_less : (side : Side) (rules : List MappingRule) (front : List ℕ) (last : ℕ)
-    → ((rule : MappingRule) → Contains rules rule → acts side rule ≡ true → pattern side rule ≢ front ++ last ∷ [])
+    → ¬ Contains (parts (Pattern side) rules) (front ++ last ∷ [])
     → deciding side rules (front ++ last ∷ []) ≡ deciding side rules front
-decides_less side rules front last others =
-    same_rule side rules (front ++ last ∷ []) front
-    (λ rule among on. begins_less (pattern side rule) front last (others rule among on))
+decides_less side rules front last none =
+    deciding-find side rules (front ++ last ∷ [])
+    ∙ find_same (fits side (front ++ last ∷ [])) (fits side front) rules
+    (λ rule among. fits_less side front last rule
+    (λ on same. none (part_among (part_of (Pattern side)) rules rule _ among (rw on (ap Some same)))))
+    ∙ sym (deciding-find side rules front)
 
--- ---- which names are tried
+-- nor does what is put before it differ, or what is taken off it
+pub added_less : (side : Side) (rules : List MappingRule) (front : List ℕ) (last : ℕ)
+    → ¬ Contains (parts (Pattern side) rules) (front ++ last ∷ [])
+    → added_prefix side rules (front ++ last ∷ []) ≡ added_prefix side rules front
+added_less side rules front last none =
+    ap (option_and_then added_prefix_of) (decides_less side rules front last none)
+
+-- ---- what is taken off
 
 -- what the server's rules take off a host name, they take off it alone too
 pub front_is_cut : (rules : List MappingRule) (host cut : List ℕ) → added_prefix Server rules host ≡ Some cut
@@ -166,13 +165,3 @@ front_is_cut rules host (x ∷ xs) e =
     decides_front Server rules (x ∷ xs) host rule begun by.decides
     (and_from rule.server (begins rule.prepend (x ∷ xs)) fit.0 alone) in
     inr (x ∷ xs, ap (option_and_then added_prefix_of) same ∙ by.puts, refl)
-
--- the names of the guest that are tried
-abbrev pub GuestTried : Side → List MappingRule → List MappingRule → List ℕ → List ℕ → Type 0
-GuestTried side rules others beginning =
-    IsTried beginning (IsGuestName rules (parts Key rules) (parts (Added Client) rules) (parts (Host side) others))
-
--- the names of the host that are tried
-abbrev pub HostTried : List MappingRule → List ℕ → List ℕ → Type 0
-HostTried rules beginning =
-    IsTried beginning (IsHostName rules (parts (Host Server) rules) (parts (Added Server) rules) (parts Key rules))

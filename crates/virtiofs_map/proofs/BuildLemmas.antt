@@ -1,6 +1,6 @@
 -- How an accepted list grows by one specification, and that a list has at most one first fault, and an accepted one
 -- none.
-use Rattle.std.proofs.Common.{◌≡◌, ℕ, ◌<◌, List, length, take, get_or, Option, Some, IsSomeAnd, IfSome, slice_get, refl}
+use Rattle.std.proofs.Common.{◌≡◌, ℕ, ◌<◌, List, length, take, get_or, Option, Some, IsSomeAnd, IfSome, slice_get}
 use Rattle.std.proofs.Common.{arith, rules, ◌+◌, [], ◌∷◌, ◌++◌}
 use Rattle.std.proofs.Math.Seq.{take-length}
 use Rattle.std.proofs.lemmas.Bool.{cases_order}
@@ -38,8 +38,13 @@ Fits-accepted specs i j spec direction accepted here before =
           accepted.apart direction k i other under below
           (grind (arith, get_or_default))
 
--- the place of a fault: the specification there does not fit
-record FaultAt (specs : List IdMap) (spec : IdMap) (index : ℕ) (direction : Direction) : Type 0 where
+-- the specification at fault, its index and the direction
+abbrev place_of : BuildFault → IdMap × ℕ × Direction
+place_of (RangeOverflow spec index direction range_end) = (spec, index, direction)
+place_of (Intersects spec index direction) = (spec, index, direction)
+
+-- the tests come to a specification that does not fit
+record IsUnfitAt (specs : List IdMap) (spec : IdMap) (index : ℕ) (direction : Direction) : Type 0 where
   reached : IsReached specs spec index direction
   unfit : ¬ Fits (take index specs) spec direction
 
@@ -47,95 +52,43 @@ record FaultAt (specs : List IdMap) (spec : IdMap) (index : ℕ) (direction : Di
 not_broken : (P : Entry → Type 0) (o : Option Entry) → IfSome o P → ¬ IsSomeAnd o (λ entry. ¬ P entry)
 not_broken P o holds broken = grind arith
 
-at_source : (specs : List IdMap) (spec : IdMap) (index : ℕ) (direction : Direction)
-    → HasFirstFault specs (RangeOverflow spec index direction Source) → FaultAt specs spec index direction
-at_source specs spec index direction (reached, broken) = search rules
+unfit_at : (specs : List IdMap) (e : BuildFault) → HasFirstFault specs e
+    → IsUnfitAt specs (place_of e).0 (place_of e).1 (place_of e).2
+unfit_at specs (RangeOverflow spec index direction Source) (reached, broken) = search rules
+unfit_at specs (RangeOverflow spec index direction Target) (reached, source, apart, broken) = search rules
+unfit_at specs (Intersects spec index direction) (reached, source, meets) = search rules
 
-at_meeting : (specs : List IdMap) (spec : IdMap) (index : ℕ) (direction : Direction)
-    → HasFirstFault specs (Intersects spec index direction) → FaultAt specs spec index direction
-at_meeting specs spec index direction (reached, source, meets) = search rules
-
-at_target : (specs : List IdMap) (spec : IdMap) (index : ℕ) (direction : Direction)
-    → HasFirstFault specs (RangeOverflow spec index direction Target) → FaultAt specs spec index direction
-at_target specs spec index direction (reached, source, apart, broken) = search rules
-
-accepted_faultless : (specs : List IdMap) (spec : IdMap) (index : ℕ) (direction : Direction) → Accepted specs
-    → ¬ FaultAt specs spec index direction
-accepted_faultless specs spec index direction accepted fault =
+unfit_accepted : (specs : List IdMap) (spec : IdMap) (index : ℕ) (direction : Direction) → Accepted specs
+    → ¬ IsUnfitAt specs spec index direction
+unfit_accepted specs spec index direction accepted at =
     let whole : Accepted (take (length specs) specs) = rw (take-length specs) accepted in
-    fault.unfit
-    (grind (arith, Fits-accepted, slice_get_within))
+    at.unfit (grind (arith, Fits-accepted, slice_get_within))
 
 pub Accepted-no_fault : (specs : List IdMap) (e : BuildFault) → Accepted specs → ¬ HasFirstFault specs e
-Accepted-no_fault specs (RangeOverflow spec index direction Source) accepted fault =
-    accepted_faultless specs spec index direction accepted (at_source specs spec index direction fault)
-Accepted-no_fault specs (RangeOverflow spec index direction Target) accepted fault =
-    accepted_faultless specs spec index direction accepted (at_target specs spec index direction fault)
-Accepted-no_fault specs (Intersects spec index direction) accepted fault =
-    accepted_faultless specs spec index direction accepted (at_meeting specs spec index direction fault)
+Accepted-no_fault specs e accepted fault =
+    unfit_accepted specs (place_of e).0 (place_of e).1 (place_of e).2 accepted (unfit_at specs e fault)
 
 one_spec : (specs : List IdMap) (spec other : IdMap) (i : ℕ) (direction way : Direction)
-    → FaultAt specs spec i direction → FaultAt specs other i way → spec ≡ other
+    → IsUnfitAt specs spec i direction → IsUnfitAt specs other i way → spec ≡ other
 one_spec specs spec other i direction way first second = search (rules, same_Some)
 
--- two faults stand at one place
-record SamePlace (spec other : IdMap) (i j : ℕ) (direction way : Direction) : Type 0 where
-  same_spec : spec ≡ other
-  same_index : i ≡ j
-  same_direction : direction ≡ way
+-- the tests come to one such place
+one_place : (specs : List IdMap) (spec other : IdMap) (i j : ℕ) (direction way : Direction)
+    → IsUnfitAt specs spec i direction → IsUnfitAt specs other j way
+    → (spec ≡ other) × (i ≡ j) × (direction ≡ way)
+one_place specs spec other i j direction way first second = grind (arith, cases_order, Fits-accepted, one_spec)
 
-same_place : (specs : List IdMap) (spec other : IdMap) (i j : ℕ) (direction way : Direction)
-    → FaultAt specs spec i direction → FaultAt specs other j way → SamePlace spec other i j direction way
-same_place specs spec other i j direction way first second = grind (arith, cases_order, Fits-accepted, one_spec)
-
--- the tests come in one order, and only the first one that is broken is told
-source_then_meeting : (specs : List IdMap) (spec other : IdMap) (i j : ℕ) (direction way : Direction)
-    → HasFirstFault specs (RangeOverflow spec i direction Source) → HasFirstFault specs (Intersects other j way) → ⊥
-source_then_meeting specs spec other i j direction way first second =
-    let p = same_place specs spec other i j direction way (at_source specs spec i direction first)
-    (at_meeting specs other j way second) in
-    not_broken HasSource (entry_of other way) second.1 (rw (p.same_spec, p.same_direction) at first.1)
-
-source_then_target : (specs : List IdMap) (spec other : IdMap) (i j : ℕ) (direction way : Direction)
-    → HasFirstFault specs (RangeOverflow spec i direction Source)
-    → HasFirstFault specs (RangeOverflow other j way Target) → ⊥
-source_then_target specs spec other i j direction way first second =
-    let p = same_place specs spec other i j direction way (at_source specs spec i direction first)
-    (at_target specs other j way second) in
-    not_broken HasSource (entry_of other way) second.1 (rw (p.same_spec, p.same_direction) at first.1)
-
-meeting_then_target : (specs : List IdMap) (spec other : IdMap) (i j : ℕ) (direction way : Direction)
-    → HasFirstFault specs (Intersects spec i direction) → HasFirstFault specs (RangeOverflow other j way Target) → ⊥
-meeting_then_target specs spec other i j direction way first second =
-    let p = same_place specs spec other i j direction way (at_meeting specs spec i direction first)
-    (at_target specs other j way second) in
-    second.2 (rw (p.same_spec, p.same_index, p.same_direction) at first.2)
+-- and only the first test that fails there is told
+one_test : (specs : List IdMap) (e f : BuildFault)
+    → ((place_of e).0 ≡ (place_of f).0) × ((place_of e).1 ≡ (place_of f).1) × ((place_of e).2 ≡ (place_of f).2)
+    → HasFirstFault specs e → HasFirstFault specs f → e ≡ f
+one_test specs e f same first second = grind (arith, not_broken)
 
 pub HasFirstFault-one : (specs : List IdMap) (e f : BuildFault) → HasFirstFault specs e → HasFirstFault specs f → e ≡ f
-HasFirstFault-one specs (RangeOverflow spec i direction Source) (RangeOverflow other j way Source) first second =
-    let p = same_place specs spec other i j direction way (at_source specs spec i direction first)
-    (at_source specs other j way second) in
-    rw (p.same_spec, p.same_index, p.same_direction) refl
-HasFirstFault-one specs (RangeOverflow spec i direction Source) (RangeOverflow other j way Target) first second =
-    absurd (source_then_target specs spec other i j direction way first second)
-HasFirstFault-one specs (RangeOverflow spec i direction Source) (Intersects other j way) first second =
-    absurd (source_then_meeting specs spec other i j direction way first second)
-HasFirstFault-one specs (RangeOverflow spec i direction Target) (RangeOverflow other j way Source) first second =
-    absurd (source_then_target specs other spec j i way direction second first)
-HasFirstFault-one specs (RangeOverflow spec i direction Target) (RangeOverflow other j way Target) first second =
-    let p = same_place specs spec other i j direction way (at_target specs spec i direction first)
-    (at_target specs other j way second) in
-    rw (p.same_spec, p.same_index, p.same_direction) refl
-HasFirstFault-one specs (RangeOverflow spec i direction Target) (Intersects other j way) first second =
-    absurd (meeting_then_target specs other spec j i way direction second first)
-HasFirstFault-one specs (Intersects spec i direction) (RangeOverflow other j way Source) first second =
-    absurd (source_then_meeting specs other spec j i way direction second first)
-HasFirstFault-one specs (Intersects spec i direction) (RangeOverflow other j way Target) first second =
-    absurd (meeting_then_target specs spec other i j direction way first second)
-HasFirstFault-one specs (Intersects spec i direction) (Intersects other j way) first second =
-    let p = same_place specs spec other i j direction way (at_meeting specs spec i direction first)
-    (at_meeting specs other j way second) in
-    rw (p.same_spec, p.same_index, p.same_direction) refl
+HasFirstFault-one specs e f first second =
+    one_test specs e f
+    (one_place specs (place_of e).0 (place_of f).0 (place_of e).1 (place_of f).1 (place_of e).2 (place_of f).2
+    (unfit_at specs e first) (unfit_at specs f second)) first second
 
 -- by each direction
 both : (P : Direction → Type 0) → P GuestToHost → P HostToGuest → (direction : Direction) → P direction

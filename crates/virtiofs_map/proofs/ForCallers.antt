@@ -5,7 +5,7 @@ pub use Rattle.virtiofs_map.proofs.MappingLawLemmas.{KeepsGreatest-accepted, Cov
 -- the first place of a list
 pub use Rattle.virtiofs_map.proofs.ServerListLemmas.{position-Some_is, position-None_is}
 -- an audit of names that begin with nothing is one of all names
-pub use Rattle.virtiofs_map.proofs.audit.AuditLeastLemmas.{answers_all, if_ok_weaker}
+pub use Rattle.virtiofs_map.proofs.audit.AuditLeastLemmas.{answers_ok}
 -- the names of a list, one by one
 pub use Rattle.virtiofs_map.proofs.ServerListLemmas.{IsCut, is_name, is_zero, names_step_name, names_step_none}
 pub use Rattle.virtiofs_map.proofs.ServerListLemmas.{short_more, shorter_more}

@@ -12,113 +12,82 @@ use Rattle.std.proofs.lemmas.Str.{chars-nil, chars_past_char, IsUtf8-encode, IsU
 use Rattle.virtiofs_map.specs.Alphanumeric.{is_alphanumeric}
 use Rattle.virtiofs_map.specs.Numeral.{IsNumeral}
 use Rattle.virtiofs_map.specs.Separator.{Lacks, split_at_each}
-use Rattle.virtiofs_map.specs.NamespaceText.{SaysNamespace, IsEnclosed, HasNoDelimiter, HasOtherField, NamespaceFault}
-use Rattle.virtiofs_map.specs.NamespaceText.{InvalidDelimiter, IncompleteMap, InvalidValue, HasNamespaceFault}
+use Rattle.virtiofs_map.specs.NamespaceText.{SaysNamespace, HasFields, NamespaceFault, HasNamespaceFault}
+use Rattle.virtiofs_map.specs.NamespaceText.{InvalidDelimiter, IncompleteMap, InvalidValue}
 use Rattle.virtiofs_map.proofs.NumeralLemmas.{IsNumeral-one}
 use Rattle.virtiofs_map.proofs.ZipLemmas.{AllZip-one, AllZip-length, AllZip-contains}
 use Rattle.virtiofs_map.proofs.SpecificationLemmas.{chars-push}
 use Rattle.virtiofs_map.proofs.SpecificationLemmas.{split_at_each-cut, split_at_each-last}
 
--- the delimiter of a text, and what it encloses, are determined
-enclosed_same : (text : List ℕ) (d e : ℕ) (inner other : List ℕ) → IsEnclosed text d inner → IsEnclosed text e other
-    → (d ≡ e) × (inner ≡ other)
-enclosed_same text d e inner other one two = search (rules, same_from_push)
+-- a text that has fields has these alone
+HasFields-one : (text : List ℕ) (fields others : List (List ℕ)) → HasFields text fields → HasFields text others
+    → fields ≡ others
+HasFields-one text fields others one two =
+    let same = same_from_push (one.delimiter ∷ one.inner) (two.delimiter ∷ two.inner) one.delimiter two.delimiter
+    (sym one.whole ∙ two.whole) in
+    let inner : one.inner ≡ two.inner = cc in
+    one.split ∙ rw (same.1, inner) (sym two.split)
+
+-- and is not empty
+HasFields-some : (text : List ℕ) (fields : List (List ℕ)) → HasFields text fields → text ≢ []
+HasFields-some text fields has empty = search rules
 
 -- three numerals between delimiters say a range
-pub SaysNamespace-parts : (text : List ℕ) (d : ℕ) (inner x y z : List ℕ) (a b c : ℕ) → IsEnclosed text d inner
-    → split_at_each d inner ≡ x ∷ y ∷ z ∷ [] → IsNumeral x a → IsNumeral y b → IsNumeral z c → SaysNamespace text a b c
-SaysNamespace-parts text d inner x y z a b c enclosed three one two last = record {
-  delimiter = d;
-  inner = inner;
-  enclosed = enclosed;
-  fields = rw three (one, (two, (last, tt)));
-}
+pub SaysNamespace-parts : (text : List ℕ) (fields : List (List ℕ)) (x y z : List ℕ) (a b c : ℕ) → HasFields text fields
+    → fields ≡ x ∷ y ∷ z ∷ [] → IsNumeral x a → IsNumeral y b → IsNumeral z c → SaysNamespace text a b c
+SaysNamespace-parts text fields x y z a b c has three one two last =
+    record { fields = fields; between = has; numbers = rw three (one, (two, (last, tt))) }
 
 -- one of the three fields is no numeral
-pub HasOtherField-parts : (text : List ℕ) (d : ℕ) (inner x y z field : List ℕ) → IsEnclosed text d inner
-    → split_at_each d inner ≡ x ∷ y ∷ z ∷ [] → Contains (x ∷ y ∷ z ∷ []) field → ((value : ℕ) → ¬ IsNumeral field value)
-    → HasOtherField text
-HasOtherField-parts text d inner x y z field enclosed three here unread = record {
-  delimiter = d;
-  inner = inner;
-  field = field;
-  enclosed = enclosed;
-  three = ap length three;
-  here = rw three here;
-  unread = unread;
-}
+pub InvalidValue-parts : (text : List ℕ) (fields : List (List ℕ)) (x y z field : List ℕ) → HasFields text fields
+    → fields ≡ x ∷ y ∷ z ∷ [] → Contains (x ∷ y ∷ z ∷ []) field → ((value : ℕ) → ¬ IsNumeral field value)
+    → HasNamespaceFault text InvalidValue
+InvalidValue-parts text fields x y z field has three here unread =
+    (fields, has, ap length three, (field, rw three here, unread))
 
 -- a text says one range at most
 pub SaysNamespace-one : (text : List ℕ) (a b c x y z : ℕ) → SaysNamespace text a b c → SaysNamespace text x y z
     → (a ≡ x) × (b ≡ y) × (c ≡ z)
 SaysNamespace-one text a b c x y z one two =
-    let (delimiter, inner) = enclosed_same text one.delimiter two.delimiter one.inner two.inner one.enclosed two.enclosed in
-    let same : split_at_each one.delimiter one.inner ≡ split_at_each two.delimiter two.inner = rw (delimiter, inner) refl in
     let numbers : a ∷ b ∷ c ∷ [] ≡ x ∷ y ∷ z ∷ [] =
-    AllZip-one IsNumeral IsNumeral-one (split_at_each two.delimiter two.inner) (a ∷ b ∷ c ∷ []) (x ∷ y ∷ z ∷ [])
-    (rw same at one.fields) two.fields in
+    AllZip-one IsNumeral IsNumeral-one two.fields (a ∷ b ∷ c ∷ []) (x ∷ y ∷ z ∷ [])
+    (rw (HasFields-one text one.fields two.fields one.between two.between) at one.numbers) two.numbers in
     (cc, cc, cc)
-
--- a text between delimiters has one
-delimiter_of_enclosed : (text : List ℕ) (d : ℕ) (inner : List ℕ) → IsEnclosed text d inner → ¬ HasNoDelimiter text
-delimiter_of_enclosed text d inner enclosed none =
-    let (front, last) = same_from_push none.front (d ∷ inner) none.last d (sym none.ends ∙ enclosed.whole) in
-    elim none.wrong [
-      | inl letter ↦
-          grind arith
-      | inr other ↦ other inner (rw last enclosed.whole)
-    ]
-
--- and is not empty
-some_of_enclosed : (text : List ℕ) (d : ℕ) (inner : List ℕ) → IsEnclosed text d inner → text ≢ []
-some_of_enclosed text d inner enclosed empty = search rules
-
--- the count of its fields is determined
-count_of_enclosed : (text : List ℕ) (d e : ℕ) (inner other : List ℕ) → IsEnclosed text d inner → IsEnclosed text e other
-    → length (split_at_each d inner) ≡ length (split_at_each e other)
-count_of_enclosed text d e inner other one two =
-    let (delimiter, inside) = enclosed_same text d e inner other one two in
-    rw (delimiter, inside) refl
-
--- an empty text or another count of fields is no other fault
-apart_from_incomplete : (text : List ℕ) (d : ℕ) (inner : List ℕ) → IsEnclosed text d inner
-    → length (split_at_each d inner) ≡ 3 → ¬ HasNamespaceFault text IncompleteMap
-apart_from_incomplete text d inner enclosed three fault =
-    elim fault [
-      | inl empty ↦ some_of_enclosed text d inner enclosed empty
-      | inr count ↦ count.other
-          (count_of_enclosed text count.delimiter d count.inner inner count.enclosed enclosed ∙ three)
-    ]
 
 -- a text that says a range has no fault
 pub SaysNamespace-no_fault : (text : List ℕ) (a b c : ℕ) (e : NamespaceFault) → SaysNamespace text a b c
     → ¬ HasNamespaceFault text e
-SaysNamespace-no_fault text a b c InvalidDelimiter says fault =
-    delimiter_of_enclosed text says.delimiter says.inner says.enclosed fault
-SaysNamespace-no_fault text a b c IncompleteMap says fault =
-    apart_from_incomplete text says.delimiter says.inner says.enclosed
-    (AllZip-length IsNumeral (split_at_each says.delimiter says.inner) (a ∷ b ∷ c ∷ []) says.fields) fault
-SaysNamespace-no_fault text a b c InvalidValue says fault =
-    let (delimiter, inner) =
-    enclosed_same text fault.delimiter says.delimiter fault.inner says.inner fault.enclosed says.enclosed in
-    let here : Contains (split_at_each says.delimiter says.inner) fault.field =
-    grind arith in
-    let read = AllZip-contains IsNumeral (split_at_each says.delimiter says.inner) (a ∷ b ∷ c ∷ []) fault.field
-    says.fields here in
-    fault.unread read.0 read.1
-
-apart_from_delimiter : (text : List ℕ) → HasNoDelimiter text → ¬ HasNamespaceFault text IncompleteMap
-apart_from_delimiter text none fault =
-    elim fault [
-      | inl empty ↦ absurd (omega (arith, ap length (sym empty ∙ none.ends), length-append none.front (none.last ∷ [])))
-      | inr count ↦ delimiter_of_enclosed text count.delimiter count.inner count.enclosed none
-    ]
+SaysNamespace-no_fault text a b c InvalidDelimiter says (some, none) = none says.fields says.between
+SaysNamespace-no_fault text a b c IncompleteMap says (inl empty) = HasFields-some text says.fields says.between empty
+SaysNamespace-no_fault text a b c IncompleteMap says (inr (fields, has, other)) =
+    other (ap (λ (fs : List (List ℕ)). length fs) (HasFields-one text fields says.fields has says.between)
+    ∙ AllZip-length IsNumeral says.fields (a ∷ b ∷ c ∷ []) says.numbers)
+SaysNamespace-no_fault text a b c InvalidValue says (fields, has, three, (field, here, unread)) =
+    let (value, is) = AllZip-contains IsNumeral says.fields (a ∷ b ∷ c ∷ []) field says.numbers
+    (rw (HasFields-one text fields says.fields has says.between) at here) in
+    unread value is
 
 -- a text has one fault at most
+delimiter_alone : (text : List ℕ) (e : NamespaceFault) → HasNamespaceFault text InvalidDelimiter
+    → HasNamespaceFault text e → InvalidDelimiter ≡ e
+delimiter_alone text InvalidDelimiter none other = refl
+delimiter_alone text IncompleteMap (some, none) (inl empty) = absurd (some empty)
+delimiter_alone text IncompleteMap (some, none) (inr (fields, has, _)) = absurd (none fields has)
+delimiter_alone text InvalidValue (some, none) (fields, has, _, _) = absurd (none fields has)
+
+count_alone : (text : List ℕ) → HasNamespaceFault text IncompleteMap → ¬ HasNamespaceFault text InvalidValue
+count_alone text (inl empty) (fields, has, _, _) = HasFields-some text fields has empty
+count_alone text (inr (fields, has, other)) (others, also, three, _) =
+    other (ap (λ (fs : List (List ℕ)). length fs) (HasFields-one text fields others has also) ∙ three)
+
 pub HasNamespaceFault-one : (text : List ℕ) (e f : NamespaceFault) → HasNamespaceFault text e → HasNamespaceFault text f
     → e ≡ f
-HasNamespaceFault-one text e f one two =
-    grind (arith, apart_from_delimiter, delimiter_of_enclosed, apart_from_incomplete)
+HasNamespaceFault-one text InvalidDelimiter f one two = delimiter_alone text f one two
+HasNamespaceFault-one text e InvalidDelimiter one two = sym (delimiter_alone text e two one)
+HasNamespaceFault-one text IncompleteMap IncompleteMap one two = refl
+HasNamespaceFault-one text IncompleteMap InvalidValue one two = absurd (count_alone text one two)
+HasNamespaceFault-one text InvalidValue IncompleteMap one two = absurd (count_alone text two one)
+HasNamespaceFault-one text InvalidValue InvalidValue one two = refl
 
 -- a text before its last character
 pub record IsBeforeLast (bs rest : List ℕ) (c : ℕ) : Type 0 where
@@ -133,31 +102,39 @@ IsBeforeLast-here bs rest c text scalar ends =
     search (rules, IsUtf8-take, IsCharBoundary-at_seam, encode_utf8, IsUtf8-encode) in
     record { is_text = is_front; whole = ap chars ends ∙ chars-push rest c is_front scalar }
 
+not_empty : (bs rest : List ℕ) (c : ℕ) → IsBeforeLast bs rest c → chars bs ≢ []
+not_empty bs rest c before empty =
+    absurd (omega (arith, ap length (sym empty ∙ before.whole), length-append (chars rest) (c ∷ [])))
+
 -- no byte, no character
 pub chars-empty : (bs : List ℕ) → length bs ≡ 0 → chars bs ≡ []
 chars-empty bs empty = rw (nil_from_length bs empty) chars-nil
 
--- the last character is alphanumeric
-pub HasNoDelimiter-letter : (bs rest : List ℕ) (c : ℕ) → IsBeforeLast bs rest c → is_alphanumeric c ≡ true
-    → HasNoDelimiter (chars bs)
-HasNoDelimiter-letter bs rest c before letter = search rules
+-- it is no delimiter: it is alphanumeric, or the first of what stands before it is another one
+pub InvalidDelimiter-letter : (bs rest : List ℕ) (c : ℕ) → IsBeforeLast bs rest c → is_alphanumeric c ≡ true
+    → HasNamespaceFault (chars bs) InvalidDelimiter
+InvalidDelimiter-letter bs rest c before letter = (
+  not_empty bs rest c before,
+  λ fields has.
+      let same = same_from_push (chars rest) (has.delimiter ∷ has.inner) c has.delimiter
+      (sym before.whole ∙ has.whole) in
+      true≢false (sym letter ∙ ap is_alphanumeric same.1 ∙ has.delimits),
+)
 
--- the first of what stands before the last character is not that character
-pub HasNoDelimiter-first : (bs rest : List ℕ) (c : ℕ) → IsBeforeLast bs rest c → slice_get (chars rest) 0 ≢ Some c
-    → HasNoDelimiter (chars bs)
-HasNoDelimiter-first bs rest c before other = record {
-  front = chars rest;
-  last = c;
-  ends = before.whole;
-  wrong = inr
-      (λ inner whole. other
-      (ap (λ (cs : List ℕ). slice_get cs 0) (same_from_push (chars rest) (c ∷ inner) c c (sym before.whole ∙ whole)).0));
-}
+pub InvalidDelimiter-first : (bs rest : List ℕ) (c : ℕ) → IsBeforeLast bs rest c → slice_get (chars rest) 0 ≢ Some c
+    → HasNamespaceFault (chars bs) InvalidDelimiter
+InvalidDelimiter-first bs rest c before other = (
+  not_empty bs rest c before,
+  λ fields has.
+      let same = same_from_push (chars rest) (has.delimiter ∷ has.inner) c has.delimiter
+      (sym before.whole ∙ has.whole) in
+      other (ap (λ (cs : List ℕ). slice_get cs 0) same.0 ∙ ap (λ (d : ℕ). Some d) (sym same.1)),
+)
 
--- it is that character
-pub IsEnclosed-here : (bs rest inner : List ℕ) (c : ℕ) → IsBeforeLast bs rest c → is_alphanumeric c ≡ false
-    → rest ≡ encode_utf8 c ++ inner → IsEnclosed (chars bs) c (chars inner)
-IsEnclosed-here bs rest inner c before delimits begins = search (rules, chars_past_char)
+-- it is one, with which the text begins too
+pub HasFields-here : (bs rest inner : List ℕ) (c : ℕ) → IsBeforeLast bs rest c → is_alphanumeric c ≡ false
+    → rest ≡ encode_utf8 c ++ inner → HasFields (chars bs) (split_at_each c (chars inner))
+HasFields-here bs rest inner c before delimits begins = search (rules, chars_past_char)
 
 -- what `!=` answers of the character
 pub same_option : (r : Option ℕ) (c : ℕ) → not (option_eq nat_eq r (Some c)) ≡ false → r ≡ Some c
@@ -205,7 +182,7 @@ more_fields d inner x rest y z front back whole first cut second more third =
 pub ruleset fields = (three_fields, one_field, two_fields, more_fields)
 
 -- what three fields say
-pub ruleset parts = (SaysNamespace-parts, HasOtherField-parts)
+pub ruleset parts = (SaysNamespace-parts, InvalidValue-parts)
 
 -- that a text says one range, or has one fault
 pub ruleset one_reading = (SaysNamespace-one, SaysNamespace-no_fault, HasNamespaceFault-one)

@@ -67,15 +67,17 @@ chars-printed spec small = search (rules, chars-IsAscii, IsAscii-append, IsAscii
 Says-parts : (spec : IdMap) (n : ℕ) (ns : List ℕ) → numbers_of spec ≡ n ∷ ns → All (λ m. m < 2 ^ 32) (numbers_of spec)
     → Says (chars (specification_text spec)) spec
 Says-parts spec n ns are small = record {
-  prefix = word_of spec;
-  separator = 58;
-  rest = decimal n ++ after_colons ns;
-  cut = record {
+  fields = split_at_each 58 (decimal n ++ after_colons ns);
+  parts = record {
+    prefix = word_of spec;
+    separator = 58;
+    rest = decimal n ++ after_colons ns;
     whole = grind (arith, chars-printed, after_colons);
-    word = AllPass-from_list_all is_word_character (word_of spec) (all_word spec);
+    passed = AllPass-from_list_all is_word_character (word_of spec) (all_word spec);
     ends = colon_ends;
+    lower = sym (lowered-word_of spec);
+    split = refl;
   };
-  word = lowered-word_of spec;
   numbers =
       grind (arith, after_colons, AllZip-fields);
 }
@@ -114,14 +116,17 @@ namespace_printed a b c small_a small_b small_c =
     ≡ 58 ∷ (decimal a ++ 58 ∷ (decimal b ++ 58 ∷ (decimal c ++ 58 ∷ []))) = simp append_assoc in
     let rest : after_colons (b ∷ c ∷ []) ≡ 58 ∷ (decimal b ++ 58 ∷ decimal c) = simp append-nil in
     let small : All (λ m. m < 2 ^ 32) (a ∷ b ∷ c ∷ []) = search (rules, All-cons, All-nil) in
+    let inner : List ℕ = decimal a ++ 58 ∷ (decimal b ++ 58 ∷ decimal c) in
     record {
-      delimiter = 58;
-      inner = decimal a ++ 58 ∷ (decimal b ++ 58 ∷ decimal c);
-      enclosed = record {
+      fields = split_at_each 58 inner;
+      between = record {
+        delimiter = 58;
+        inner = inner;
         whole = chars-IsAscii (namespace_text a b c) (IsAscii-namespace_text a b c small_a small_b small_c) ∙ whole
             ∙ enclosed (decimal a) (decimal b) (decimal c);
         delimits = colon_delimits;
+        split = refl;
       };
-      fields = subst (λ (cs : List ℕ). AllZip IsNumeral (split_at_each 58 (decimal a ++ cs)) (a ∷ b ∷ c ∷ [])) rest
+      numbers = subst (λ (cs : List ℕ). AllZip IsNumeral (split_at_each 58 (decimal a ++ cs)) (a ∷ b ∷ c ∷ [])) rest
           (AllZip-fields a (b ∷ c ∷ []) small);
     }

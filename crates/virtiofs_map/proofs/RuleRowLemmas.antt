@@ -2,7 +2,7 @@
 use Rattle.std.proofs.Common.{◌≡◌, ℕ, ◌+◌, ◌-◌, ◌*◌, ◌/◌, ◌%◌, ◌<◌, ◌≤◌, zero, suc, Bool, if◌then◌else◌, List, [], ◌∷◌, ◌++◌}
 use Rattle.std.proofs.Common.{Some, length, take, drop, slice_get, cond, eqb, ◌⊎◌, inl, inr, refl, ap, sym, subst, ◌∙◌}
 use Rattle.std.proofs.Common.{arith, append_assoc, length-append, length-drop, rules}
-use Rattle.std.proofs.Math.Seq.{drop-append_seam, take-append_seam}
+use Rattle.std.proofs.Math.Seq.{drop-append_seam}
 use Rattle.std.proofs.lemmas.List.{drop-append-le, drop-drop, take-append-le, take_all}
 use Rattle.std.proofs.lemmas.Option.{slice_get_within}
 use Rattle.virtiofs_map.specs.NodeParts.{IsSpan}
@@ -11,7 +11,7 @@ use Rattle.virtiofs_map.specs.NamesImageParts.{rule_of_row, rules_of_rows, rules
 use Rattle.virtiofs_map.specs.RuleParts.{AreKept, holds}
 use Rattle.virtiofs_map.specs.declared.xattrmap.scopes.Side.TheVariants.{Client, Server}
 use Rattle.virtiofs_map.specs.Rule.{MappingRule, RuleType, Prefix, Okay, Bad, Unsupported, type_number}
-use Rattle.virtiofs_map.specs.LeU64Parts.{le_u64_at, le_u64_bytes}
+use Rattle.virtiofs_map.specs.LeU64Parts.{le_u64_bytes}
 use Rattle.virtiofs_map.specs.declared.xattrmap.spans.Span.{Span}
 use Rattle.virtiofs_map.proofs.LeU64Lemmas.{first_of_three, second_of_three, third_of_three, length-three, shared_low}
 use Rattle.virtiofs_map.proofs.LeU64Lemmas.{shared_high, shared_fits}
@@ -99,15 +99,7 @@ rule_there rules rows bytes row span at are here is_row is_span =
     let stands : IsRuleRow bytes rule row = rw is_row (are.each at rule is) in
     record { rule = rule; here = is; is = rw is_span stands.is; back = row_back bytes rule row stands }
 
--- ---- no row, and one row more
-
-pub none_kept : (rows bytes : List ℕ) → rows ≡ [] → bytes ≡ [] → AreKept (rules_stored bytes rows) rows bytes
-unfolding rules_stored
-none_kept rows bytes e f =
-    rw (e, f) (record {
-      stored = record { long = refl; each = λ place rule here. absurd (cc); few = omega arith };
-      whole = refl;
-    })
+-- ---- one row more
 
 -- an element of a list that one was put behind
 pushed : {X : Type 0} (xs : List X) (x y : X) (at : ℕ) → slice_get (xs ++ x ∷ []) at ≡ Some y
@@ -189,7 +181,6 @@ module _ (bytes : List ℕ) (rule : MappingRule) where
         within = omega arith;
       }
 
--- one row more
 module _ (rules : List MappingRule) (rows bytes : List ℕ) (rule : MappingRule) (kept : AreKept rules rows bytes)
     (short : length (all bytes rule) < 281474976710656) where
   one_more : (place : ℕ) (r : MappingRule) → slice_get (rules ++ rule ∷ []) place ≡ Some r

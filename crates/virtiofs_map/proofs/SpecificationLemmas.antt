@@ -1,7 +1,7 @@
 -- The prefix and the fields of a specification's text, and what is wrong with them.
-use Rattle.std.proofs.Common.{◌≡◌, ℕ, true, false, nat_lt, List, [], ◌∷◌, ◌++◌, length, sym, ap, ◌∙◌, append_assoc}
-use Rattle.std.proofs.Common.{arith, encode_utf8, chars, IsUtf8, append-nil, ltb-true, ltb-false, rules, inl, inr, ◌==◌}
-use Rattle.std.proofs.Common.{All, Option, Some, None, Result, Ok, Err, IfOk, IfErr, eq-eqb, encode_utf8_all, IsAscii}
+use Rattle.std.proofs.Common.{◌≡◌, ◌≢◌, refl, ℕ, true, false, nat_lt, List, [], ◌∷◌, ◌++◌, length, sym, ap, ◌∙◌, append_assoc}
+use Rattle.std.proofs.Common.{arith, encode_utf8, chars, IsUtf8, append-nil, ltb-true, ltb-false, rules, inl, ◌==◌}
+use Rattle.std.proofs.Common.{All, Option, Result, Ok, Err, IfOk, IfErr, eq-eqb, encode_utf8_all, IsAscii}
 use Rattle.std.specs.Char.{IsScalar, to_ascii_lowercase}
 use Rattle.std.specs.List.{AllPass, AllZip}
 use Rattle.std.proofs.lemmas.Str.{chars-append, chars-nil, chars_past_char, scalars-chars, IsUtf8-encode}
@@ -10,9 +10,10 @@ use Rattle.std.proofs.lemmas.List.{map-append}
 use Rattle.std.proofs.lemmas.Bool.{and_parts, cases_Bool}
 use Rattle.std.proofs.Math.Utf8.{scalar, scalars}
 use Rattle.std.proofs.lemmas.List.Elements.{All-push, All-nil, All-weaker}
-use Rattle.virtiofs_map.specs.SpecificationText.{is_word_character, lowered, word_of, numbers_of, HasNumerals, Says}
-use Rattle.virtiofs_map.specs.SpecificationText.{SpecificationFault, HasSpecificationFault, specification_fault_of}
-use Rattle.virtiofs_map.specs.SpecificationParts.{IsLoweredCut, IsFieldFault, IsFieldsFault, IsCountFault, IsWordFault}
+use Rattle.virtiofs_map.specs.SpecificationText.{is_word_character, lowered, word_of, numbers_of, HasParts, Says}
+use Rattle.virtiofs_map.specs.SpecificationText.{SpecificationFault, InvalidValue, HasSpecificationFault}
+use Rattle.virtiofs_map.specs.SpecificationText.{specification_fault_of, IsFieldsFault, IsCountFault, IsWordFault}
+use Rattle.virtiofs_map.specs.SpecificationText.{InvalidPrefix, InvalidLength, HasNoSeparator}
 use Rattle.std.proofs.lemmas.Str.Ascii.{IsAscii-from_all}
 use Rattle.std.proofs.lemmas.List.Sums.{AllPass-from_list_all}
 use Rattle.std.proofs.lemmas.List.Splits.{slice_split_at, slice_split_none}
@@ -72,9 +73,10 @@ IsPrefixSoFar-more text rest back word c d is_word lower next passes so_far =
     }
 
 -- the prefix ends at a character that is no word character
-pub IsLoweredCut-here : (text rest back word : List ℕ) (c : ℕ) → rest ≡ encode_utf8 c ++ back
-    → is_word_character c ≡ false → IsPrefixSoFar text rest word → IsLoweredCut (chars text) (chars word) c (chars back)
-IsLoweredCut-here text rest back word c next ends so_far = search (rules, chars_past_char)
+pub HasParts-here : (text rest back word : List ℕ) (c : ℕ) → rest ≡ encode_utf8 c ++ back
+    → is_word_character c ≡ false → IsPrefixSoFar text rest word
+    → HasParts (chars text) (chars word) (split_at_each c (chars back))
+HasParts-here text rest back word c next ends so_far = search (rules, chars_past_char)
 
 -- where nothing is left, the text is nothing but word characters
 pub AllPass-prefix : (text rest word : List ℕ) → length rest ≡ 0 → IsPrefixSoFar text rest word
@@ -99,82 +101,65 @@ split_at_each-last separator rest none = search (rules, slice_split_none, fails_
 
 -- the fault of a field is that of the fields, where those before it are numerals
 pub IsFieldsFault-here : (fields done after : List (List ℕ)) (numbers field : List ℕ) (told : Option SpecificationFault)
-    → fields ≡ done ++ field ∷ after → AllZip IsNumeral done numbers → OutOfMemoryOr told (IsFieldFault field)
+    → fields ≡ done ++ field ∷ after → AllZip IsNumeral done numbers
+    → OutOfMemoryOr told (λ fault. (fault ≡ InvalidValue field) × ((value : ℕ) → ¬ IsNumeral field value))
     → OutOfMemoryOr told (IsFieldsFault fields)
 IsFieldsFault-here fields done after numbers field told here read refused = grind arith
-
--- the word of a specification that takes another count
-pub IsWordFault-count : (spec : IdMap) (word numbers : List ℕ) (told : Option SpecificationFault) → word ≡ word_of spec
-    → OutOfMemoryOr told (IsCountFault (length (numbers_of spec)) numbers)
-    → OutOfMemoryOr told (IsWordFault word numbers)
-IsWordFault-count spec word numbers told is refused = grind arith
 
 pub IsAscii-word_of : (spec : IdMap) → IsAscii (word_of spec)
 IsAscii-word_of spec = grind (arith, IsAscii-from_all, All-weaker, AllPass-from_list_all)
 
--- the characters of a text are the word of a specification just where its bytes are
+-- the bytes of a text are the word of a specification just where its characters are
+chars-word_of : (spec : IdMap) (bs : List ℕ) → bs ≡ word_of spec → chars bs ≡ word_of spec
+chars-word_of spec bs same = rw same (chars-IsAscii (word_of spec) (IsAscii-word_of spec))
+
 bytes-word_of : (spec : IdMap) (bs : List ℕ) → IsUtf8 bs → chars bs ≡ word_of spec → bs ≡ word_of spec
 bytes-word_of spec bs text same = sym (encodes-chars bs text) ∙ ap encode_utf8_all same
     ∙ encodes-IsAscii (word_of spec) (IsAscii-word_of spec)
 
-Says-parts : (text word rest : List ℕ) (separator : ℕ) (values : List ℕ) (spec : IdMap)
-    → IsLoweredCut text (chars word) separator rest → AllZip IsNumeral (split_at_each separator rest) values
-    → word ≡ word_of spec → values ≡ numbers_of spec → Says text spec
-Says-parts text word rest separator values spec cut read is same = search (rules, chars-IsAscii, IsAscii-word_of)
+-- the word of a specification that takes another count, and of none
+pub IsWordFault-count : (spec : IdMap) (word numbers : List ℕ) (told : Option SpecificationFault) → word ≡ word_of spec
+    → OutOfMemoryOr told (IsCountFault (length (numbers_of spec)) numbers)
+    → OutOfMemoryOr told (IsWordFault (chars word) numbers)
+IsWordFault-count spec word numbers told is refused = grind (arith, chars-word_of)
 
-has_numerals : (text word rest : List ℕ) (separator : ℕ) (values : List ℕ) (seen : ℕ)
-    (cut : IsLoweredCut text word separator rest) → AllZip IsNumeral (split_at_each separator rest) values
-    → length values ≡ seen → HasNumerals text cut.prefix seen
-has_numerals text word rest separator values seen cut read count = search rules
+pub IsWordFault-unknown : (word numbers : List ℕ) → IsUtf8 word → ((spec : IdMap) → word ≢ word_of spec)
+    → IsWordFault (chars word) numbers (InvalidPrefix (chars word))
+IsWordFault-unknown word numbers text unknown = inl (refl, λ spec is. unknown spec (bytes-word_of spec word text is))
 
--- a word and numbers that say no specification
-word_fault : (text word rest : List ℕ) (separator : ℕ) (values : List ℕ) (fault : SpecificationFault) → IsUtf8 word
-    → IsLoweredCut text (chars word) separator rest → AllZip IsNumeral (split_at_each separator rest) values
-    → IsWordFault word values fault → HasSpecificationFault text fault
-word_fault text word rest separator values fault is_text cut read (inl (is, unknown)) =
-    rw is (record {
-      prefix = cut.prefix;
-      seen = length values;
-      numerals = grind (arith, has_numerals);
-      is = cut.lower;
-      unknown = grind (arith, bytes-word_of);
-    })
-word_fault text word rest separator values fault is_text cut read (inr (spec, word_is, (is, other))) =
-    grind (arith, chars-IsAscii, IsAscii-word_of)
+-- what the reader answers, from what it found of the word, the fields and the numbers
+pub refused-uncut : (text : List ℕ) → HasNoSeparator text → HasSpecificationFault text (InvalidLength 1 0)
+unfolding HasSpecificationFault
+refused-uncut text none = inl (none, refl)
 
-pub refused-fields : (text word rest : List ℕ) (separator : ℕ) (told : Option SpecificationFault)
-    → IsLoweredCut text word separator rest → OutOfMemoryOr told (IsFieldsFault (split_at_each separator rest))
+pub refused-fields : (text word : List ℕ) (fields : List (List ℕ)) (told : Option SpecificationFault)
+    → HasParts text word fields → OutOfMemoryOr told (IsFieldsFault fields)
     → OutOfMemoryOr told (HasSpecificationFault text)
-refused-fields text word rest separator told cut refused = grind arith
+unfolding HasSpecificationFault
+refused-fields text word fields told parts refused = grind arith
 
-refused_word : (text word rest : List ℕ) (separator : ℕ) (values : List ℕ) (told : Option SpecificationFault)
-    → IsUtf8 word → IsLoweredCut text (chars word) separator rest
-    → AllZip IsNumeral (split_at_each separator rest) values → OutOfMemoryOr told (IsWordFault word values)
-    → OutOfMemoryOr told (HasSpecificationFault text)
-refused_word text word rest separator values None is_text cut read refused = tt
-refused_word text word rest separator values (Some fault) is_text cut read refused = search (rules, word_fault)
+pub read-word : {A : Type 0} (text word : List ℕ) (fields : List (List ℕ)) (values : List ℕ)
+    (r : Result IdMap (IdMapError A)) → HasParts text (chars word) fields → AllZip IsNumeral fields values
+    → IfOk r (λ spec. word ≡ word_of spec) → IfOk r (λ spec. values ≡ numbers_of spec) → IfOk r (Says text)
+read-word text word fields values (Ok spec) parts read is same = record {
+  fields = fields;
+  parts = rw (chars-word_of spec word is) at parts;
+  numbers = rw same at read;
+}
+read-word text word fields values (Err e) parts read is same = tt
 
--- what the reader answers, from what it found of the word and the numbers
-pub read-word : {A : Type 0} (text word rest : List ℕ) (separator : ℕ) (values : List ℕ)
-    (r : Result IdMap (IdMapError A)) → IsLoweredCut text (chars word) separator rest
-    → AllZip IsNumeral (split_at_each separator rest) values → IfOk r (λ spec. word ≡ word_of spec)
-    → IfOk r (λ spec. values ≡ numbers_of spec) → IfOk r (Says text)
-read-word text word rest separator values (Ok spec) cut read is same = search (rules, Says-parts)
-read-word text word rest separator values (Err e) cut read is same = tt
-
-pub refused-word : {A : Type 0} (text word rest : List ℕ) (separator : ℕ) (values : List ℕ)
-    (r : Result IdMap (IdMapError A)) → IsUtf8 word → IsLoweredCut text (chars word) separator rest
-    → AllZip IsNumeral (split_at_each separator rest) values
-    → IfErr r (λ e. OutOfMemoryOr (specification_fault_of e) (IsWordFault word values))
+pub refused-word : {A : Type 0} (text word : List ℕ) (fields : List (List ℕ)) (values : List ℕ)
+    (r : Result IdMap (IdMapError A)) → HasParts text (chars word) fields → AllZip IsNumeral fields values
+    → IfErr r (λ e. OutOfMemoryOr (specification_fault_of e) (IsWordFault (chars word) values))
     → IfErr r (λ e. OutOfMemoryOr (specification_fault_of e) (HasSpecificationFault text))
-refused-word text word rest separator values (Ok spec) is_text cut read refused = tt
-refused-word text word rest separator values (Err e) is_text cut read refused = search (rules, refused_word)
+unfolding HasSpecificationFault
+refused-word text word fields values r parts read refused = grind arith
 
 -- what the reader answers
-pub ruleset read_words = (read-word, refused-word, refused-fields)
+pub ruleset read_words = (read-word, refused-word, refused-fields, refused-uncut)
 
 -- how a prefix is read
-pub ruleset read_prefix = (IsPrefixSoFar-start, IsPrefixSoFar-more, IsLoweredCut-here, AllPass-prefix)
+pub ruleset read_prefix = (IsPrefixSoFar-start, IsPrefixSoFar-more, HasParts-here, AllPass-prefix)
 
 -- how fields are read
 pub ruleset fields = (split_at_each-cut, split_at_each-last, IsFieldsFault-here, AllZip-push)

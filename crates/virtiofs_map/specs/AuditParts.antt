@@ -1,29 +1,40 @@
 -- What the private functions of an audit say: what is asked about a name, which names are tried, and what was found.
 -- Only they cite these definitions.
-use Rattle.std.specs.Prelude.{◌≡◌, ◌≢◌, ◌⊎◌, Contains, ℕ, ◌+◌, ◌*◌, ◌<◌, ◌≤◌, Bool, true, false, List, [], ◌∷◌, ◌++◌}
-use Rattle.std.specs.Prelude.{length, drop, Option}
-use Rattle.std.specs.Prelude.{Some, None, is_none, option_and_then, count_by}
+use Rattle.std.specs.Prelude.{◌≡◌, ◌≢◌, ◌⊎◌, Contains, ℕ, ◌+◌, ◌-◌, ◌<◌, ◌≤◌, Bool, true, false, if◌then◌else◌}
+use Rattle.std.specs.Prelude.{List, [], ◌∷◌, ◌++◌, length, drop, slice_get, Option, Some, None, is_none, option_map}
+use Rattle.std.specs.Prelude.{option_and_then}
 use Rattle.std.specs.Cmp.Lexicographic.{slice_cmp}
 use Rattle.std.specs.List.{filter_map}
+use Rattle.std.specs.List.Sorted.{IsSorted}
 use Rattle.std.specs.Option.{option_map_or}
 use Rattle.std.specs.Ordering.{nat_cmp, is_lt}
 use Rattle.virtiofs_map.specs.Audit.{IsBefore, HasFault, Reached, Within}
-use Rattle.virtiofs_map.specs.FirstRule.{acts}
-use Rattle.virtiofs_map.specs.GatheredParts.{added_prefix_of, part_of}
+use Rattle.virtiofs_map.specs.FirstRule.{acts, pattern}
 use Rattle.virtiofs_map.specs.MapRule.{IsName}
 use Rattle.virtiofs_map.specs.Names.{IsHidden, Passes, client_answer, deciding, host_answer}
 use Rattle.virtiofs_map.specs.NamesImage.{IsMapOf}
-use Rattle.virtiofs_map.specs.Rule.{MappingRule}
+use Rattle.virtiofs_map.specs.Rule.{RuleType, Prefix, Okay, Bad, Unsupported, MappingRule}
 use Rattle.virtiofs_map.specs.declared.audit.answer.Audit.{Audit}
 use Rattle.virtiofs_map.specs.declared.audit.answer.Audit.TheVariants.{Yes, No}
 use Rattle.virtiofs_map.specs.declared.audit.asking.NameFault.{NameFault}
 use Rattle.virtiofs_map.specs.declared.audit.asking.NameFault.TheVariants.{Lost, Stray, Seen, Shared}
 use Rattle.virtiofs_map.specs.declared.audit.gathered.Part.{Part}
+use Rattle.virtiofs_map.specs.declared.audit.gathered.Part.TheVariants.{Pattern, Added, Passed}
 use Rattle.virtiofs_map.specs.declared.audit.question.Question.{Question}
 use Rattle.virtiofs_map.specs.declared.xattrmap.scopes.Side.{Side}
 use Rattle.virtiofs_map.specs.declared.xattrmap.scopes.Side.TheVariants.{Client, Server}
 
 -- ---- how a rule lets a name through
+
+-- what a rule puts before a guest's name to make the host's name; none if the rule lets no name through
+abbrev pub added_prefix_by : RuleType → List ℕ → Option (List ℕ)
+added_prefix_by Okay prepend = Some []
+added_prefix_by Prefix prepend = Some prepend
+added_prefix_by Bad prepend = None
+added_prefix_by Unsupported prepend = None
+
+abbrev pub added_prefix_of : MappingRule → Option (List ℕ)
+added_prefix_of rule = added_prefix_by rule.kind rule.prepend
 
 -- what is put before a name, or taken off it, by the first rule that fits it on that side
 abbrev pub added_prefix : Side → List MappingRule → List ℕ → Option (List ℕ)
@@ -47,29 +58,54 @@ IsCut rules cut = (cut ≡ []) ⊎ CutsAt rules cut (length cut)
 
 -- ---- what is gathered from the rules
 
+-- that part of a rule, if it has one
+abbrev pub part_of : Part → MappingRule → Option (List ℕ)
+part_of (Pattern side) rule = if acts side rule then Some (pattern side rule) else None
+part_of (Added side) rule = if acts side rule then added_prefix_of rule else None
+part_of Passed rule = if rule.client then option_map (λ added. added ++ rule.key) (added_prefix_of rule) else None
+
 -- that part of each rule which has one
 abbrev pub parts : Part → List MappingRule → List (List ℕ)
 parts part rules = filter_map (part_of part) rules
 
+-- ---- names in the order of their bytes
+
+-- the names stand in the order of their bytes
+abbrev pub AreOrdered : List (List ℕ) → Type 0
+AreOrdered names = IsSorted (slice_cmp nat_cmp) names
+
+-- the name at that place stands just before it too
+abbrev pub IsRepeated : List (List ℕ) → ℕ → Type 0
+IsRepeated names place = (0 < place) × (slice_get names (place - 1) ≡ slice_get names place)
+
+-- the names before that place come before the bytes, and the others do not
+pub record CountsBefore (names : List (List ℕ)) (bytes : List ℕ) (count : ℕ) : Type 0 where
+  pub at_most : count ≤ length names
+  pub before : (place : ℕ) (name : List ℕ) → place < count → slice_get names place ≡ Some name
+      → IsBefore name bytes
+  pub after : (place : ℕ) (name : List ℕ) → count ≤ place → slice_get names place ≡ Some name
+      → ¬ IsBefore name bytes
+
 -- ---- what is asked
 
--- the rules whose patterns for host names count, and for which side
-abbrev pub other_rules : NameFault → List MappingRule → List MappingRule → List MappingRule
-other_rules Lost rules others = rules
-other_rules Stray rules others = rules
-other_rules Seen rules others = others
-other_rules Shared rules others = others
-
+-- the side whose names may have the fault
 abbrev pub side_of : NameFault → Side
-side_of Lost = Server
+side_of Lost = Client
 side_of Stray = Server
-side_of Seen = Server
+side_of Seen = Client
 side_of Shared = Client
+
+-- what names of the other side begin with: two names that begin with the same of these fare alike there
+abbrev pub ends_of : NameFault → List MappingRule → List MappingRule → List (List ℕ)
+ends_of Lost rules others = parts (Pattern Server) rules
+ends_of Stray rules others = parts (Pattern Client) rules
+ends_of Seen rules others = parts (Pattern Server) others
+ends_of Shared rules others = parts Passed others
 
 -- what is asked is asked of maps of these rules
 pub record IsAskedOf (question : Question) (rules others : List MappingRule) : Type 0 where
   pub map : IsMapOf rules question.map
-  pub other : IsMapOf (other_rules question.fault rules others) question.other
+  pub other : IsMapOf others question.other
 
 -- a name of the guest has the fault, if it passes as that host name, with so many bytes put before it
 abbrev pub FailsAs : NameFault → List MappingRule → List MappingRule → List ℕ → ℕ → Type 0
@@ -104,15 +140,21 @@ told (No name) = Some name
 
 -- the name is not bad, or a bad name was found that it does not come before
 abbrev pub Handled : (List ℕ → Type 0) → Option (List ℕ) → List ℕ → Type 0
-Handled Bad least name = Bad name → (found : List ℕ) × (least ≡ Some found) × (¬ IsBefore name found)
+Handled bad least name = bad name → (found : List ℕ) × (least ≡ Some found) × (¬ IsBefore name found)
 
 -- no name of the set comes before what is found now, nor does one that did not come before what was found; what is
 -- found is bad, and at most so many names were counted
-pub record Tries (Bad names : List ℕ → Type 0) (most : ℕ) (old new : TriedSoFar) : Type 0 where
-  pub handled : (name : List ℕ) → names name → Handled Bad new.least name
-  pub kept : (name : List ℕ) → Handled Bad old.least name → Handled Bad new.least name
-  pub found : (name : List ℕ) → new.least ≡ Some name → (old.least ≡ Some name) ⊎ Bad name
+pub record Tries (bad names : List ℕ → Type 0) (most : ℕ) (old new : TriedSoFar) : Type 0 where
+  pub handled : (name : List ℕ) → names name → Handled bad new.least name
+  pub kept : (name : List ℕ) → Handled bad old.least name → Handled bad new.least name
+  pub found : (name : List ℕ) → new.least ≡ Some name → (old.least ≡ Some name) ⊎ bad name
   pub counts : new.count ≤ old.count + most
+
+-- the same of what is asked, whatever rules the maps have; the names are those that such rules lead to
+abbrev pub AllTried : Question → (List MappingRule → List ℕ → Type 0) → ℕ → TriedSoFar → TriedSoFar → Type 0
+AllTried question names most old new =
+    (rules others : List MappingRule) → IsAskedOf question rules others
+    → Tries (IsBad question rules others) (names rules) most old new
 
 -- ---- which names are tried
 
@@ -125,33 +167,21 @@ abbrev pub IsLiveRest : List MappingRule → List (List ℕ) → List ℕ → Li
 IsLiveRest rules patterns added =
     LedTo patterns (λ pattern name. (pattern ≡ added ++ name) × (client_answer rules name ≡ Passes pattern))
 
--- the name is a key after `cut`
+-- the name is one of the ends after the front
 abbrev pub IsWhole : List (List ℕ) → List ℕ → List ℕ → Type 0
-IsWhole keys cut = LedTo keys (λ key name. name ≡ cut ++ key)
+IsWhole ends front = LedTo ends (λ end name. name ≡ front ++ end)
 
--- the same, if the server's rules take that off a name
-abbrev pub IsLiveWhole : List MappingRule → List (List ℕ) → List ℕ → List ℕ → Type 0
-IsLiveWhole rules keys cut name = IsCut rules cut × IsWhole keys cut name
-
--- the key of a rule for the client; or, of a pattern of the other map that starts with what a rule puts before a name,
--- the rest, if it passes as that pattern
-abbrev pub IsGuestName : List MappingRule → List (List ℕ) → List (List ℕ) → List (List ℕ) → List ℕ → Type 0
-IsGuestName rules keys all_added patterns name =
-    Contains keys name ⊎ LedTo all_added (IsLiveRest rules patterns) name
-
--- the prepend of a rule for the server; or what such a rule removes, followed by the key of a rule for the client
-abbrev pub IsHostName : List MappingRule → List (List ℕ) → List (List ℕ) → List (List ℕ) → List ℕ → Type 0
-IsHostName rules prepends cuts keys name = Contains prepends name ⊎ LedTo cuts (IsLiveWhole rules keys) name
+-- the name is what one of the ends comes to by the front, on that side; of the host's side, if the server's rules take
+-- the front off a name
+abbrev pub IsLed : Side → List MappingRule → List (List ℕ) → List ℕ → List ℕ → Type 0
+IsLed Client rules ends front name = IsLiveRest rules ends front name
+IsLed Server rules ends front name = IsCut rules front × IsWhole ends front name
 
 abbrev pub IsOneByte : List ℕ → Type 0
 IsOneByte name = (byte : ℕ) × (0 < byte) × (byte < 256) × (name ≡ byte ∷ [])
 
--- the beginning, those of the set, and the names of one byte
-abbrev pub IsTried : List ℕ → (List ℕ → Type 0) → List ℕ → Type 0
-IsTried beginning names name = (name ≡ beginning) ⊎ (names name ⊎ IsOneByte name)
-
--- the most names of the guest that are counted
-abbrev pub most_guest_names : Side → List MappingRule → List MappingRule → ℕ
-most_guest_names side others rules =
-    255 + count_by (λ rule. rule.client) rules + count_by (λ rule. rule.client) rules * count_by
-    (λ rule. acts side rule) others
+-- the beginning, the patterns, what the ends come to by the fronts, and the names of one byte
+abbrev pub IsTried :
+    Side → List MappingRule → List ℕ → List (List ℕ) → List (List ℕ) → List (List ℕ) → List ℕ → Type 0
+IsTried side rules beginning patterns fronts ends name =
+    (name ≡ beginning) ⊎ (IsWhole patterns [] name ⊎ (LedTo fronts (IsLed side rules ends) name ⊎ IsOneByte name))

@@ -6,7 +6,6 @@ pub mod NodeParts
 pub mod Build
 pub mod LeU64Parts
 pub mod FirstRule
-pub mod GatheredParts
 pub mod TrieBuildParts
 pub mod Image
 pub mod ImageAnswer
@@ -34,7 +33,6 @@ pub mod RuleParts
 pub mod RuleText
 pub mod RulesFault
 pub mod Separator
-pub mod SpecificationParts
 pub mod SpecificationText
 pub mod Specifications
 pub mod Steps

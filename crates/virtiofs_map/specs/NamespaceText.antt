@@ -1,5 +1,5 @@
 -- The texts that say a range of a namespace, as `:0:100000:65536:`, and what is wrong with the others.
-use Rattle.std.specs.Prelude.{◌≡◌, ◌≢◌, ◌⊎◌, ℕ, true, false, List, [], ◌∷◌, ◌++◌, length, Contains}
+use Rattle.std.specs.Prelude.{◌≡◌, ◌≢◌, ◌⊎◌, ℕ, false, List, [], ◌∷◌, ◌++◌, length, Contains}
 use Rattle.std.specs.List.{AllZip}
 use Rattle.virtiofs_map.specs.Alphanumeric.{is_alphanumeric}
 use Rattle.virtiofs_map.specs.Numeral.{IsNumeral}
@@ -7,41 +7,20 @@ use Rattle.virtiofs_map.specs.Separator.{split_at_each}
 use Rattle.virtiofs_map.specs.declared.idmap.IdMapError.{IdMapError}
 use Rattle.virtiofs_map.specs.declared.idmap.IdMapError.TheVariants as errors
 
--- the text begins and ends with the same character, which is not alphanumeric
-pub record IsEnclosed (text : List ℕ) (delimiter : ℕ) (inner : List ℕ) : Type 0 where
+-- the text begins and ends with the same character, which is not alphanumeric, and that character stands between the
+-- fields
+pub record HasFields (text : List ℕ) (fields : List (List ℕ)) : Type 0 where
+  pub delimiter : ℕ
+  pub inner : List ℕ
   pub whole : text ≡ delimiter ∷ inner ++ delimiter ∷ []
   pub delimits : is_alphanumeric delimiter ≡ false
+  pub split : fields ≡ split_at_each delimiter inner
 
 -- the text is three numerals, with a delimiter that is not alphanumeric before, between and after them
 pub record SaysNamespace (text : List ℕ) (inside outside count : ℕ) : Type 0 where
-  pub delimiter : ℕ
-  pub inner : List ℕ
-  pub enclosed : IsEnclosed text delimiter inner
-  pub fields : AllZip IsNumeral (split_at_each delimiter inner) (inside ∷ outside ∷ count ∷ [])
-
--- the last character is alphanumeric, or the text is not two or more characters of which the first equals the last
-pub record HasNoDelimiter (text : List ℕ) : Type 0 where
-  pub front : List ℕ
-  pub last : ℕ
-  pub ends : text ≡ front ++ last ∷ []
-  pub wrong : (is_alphanumeric last ≡ true) ⊎ ((inner : List ℕ) → text ≢ last ∷ inner ++ last ∷ [])
-
--- between the first and the last delimiter there are not exactly three fields
-pub record HasOtherCount (text : List ℕ) : Type 0 where
-  pub delimiter : ℕ
-  pub inner : List ℕ
-  pub enclosed : IsEnclosed text delimiter inner
-  pub other : length (split_at_each delimiter inner) ≢ 3
-
--- there are three fields, and one of them is no numeral
-pub record HasOtherField (text : List ℕ) : Type 0 where
-  pub delimiter : ℕ
-  pub inner : List ℕ
-  pub field : List ℕ
-  pub enclosed : IsEnclosed text delimiter inner
-  pub three : length (split_at_each delimiter inner) ≡ 3
-  pub here : Contains (split_at_each delimiter inner) field
-  pub unread : (value : ℕ) → ¬ IsNumeral field value
+  pub fields : List (List ℕ)
+  pub between : HasFields text fields
+  pub numbers : AllZip IsNumeral fields (inside ∷ outside ∷ count ∷ [])
 
 -- what is wrong with a text that says no range
 pub data NamespaceFault : Type 0 where
@@ -49,11 +28,15 @@ pub data NamespaceFault : Type 0 where
   IncompleteMap : NamespaceFault
   InvalidValue : NamespaceFault
 
--- the text has that fault
+-- the text has that fault: it is not empty, and does not begin and end with one character that is not alphanumeric; it is
+-- empty, or has not exactly three fields; or it has three, of which one is no numeral
 abbrev pub HasNamespaceFault : List ℕ → NamespaceFault → Type 0
-HasNamespaceFault text InvalidDelimiter = HasNoDelimiter text
-HasNamespaceFault text IncompleteMap = (text ≡ []) ⊎ HasOtherCount text
-HasNamespaceFault text InvalidValue = HasOtherField text
+HasNamespaceFault text InvalidDelimiter = (text ≢ []) × ((fields : List (List ℕ)) → ¬ HasFields text fields)
+HasNamespaceFault text IncompleteMap =
+    (text ≡ []) ⊎ ((fields : List (List ℕ)) × HasFields text fields × (length fields ≢ 3))
+HasNamespaceFault text InvalidValue =
+    (fields : List (List ℕ)) × HasFields text fields × (length fields ≡ 3)
+    × ((field : List ℕ) × Contains fields field × ((value : ℕ) → ¬ IsNumeral field value))
 
 -- the fault that an error tells
 abbrev pub namespace_fault_of : IdMapError → NamespaceFault

@@ -2,11 +2,10 @@
 -- cite these definitions.
 use Rattle.std.specs.Prelude.{◌≡◌, ◌≢◌, ◌⊎◌, ℕ, ◌+◌, ◌-◌, ◌*◌, ◌<◌, ◌≤◌, Bool, true, false, if◌then◌else◌, List, []}
 use Rattle.std.specs.Prelude.{◌∷◌, ◌++◌, length, take, drop, filter, map, Contains, All, Option, Some, slice_get}
-use Rattle.std.specs.Prelude.{slice_index}
 use Rattle.std.specs.List.{flat_map}
 use Rattle.std.specs.List.Sorted.{IsPermutation}
 use Rattle.std.specs.Option.{option_map_or}
-use Rattle.virtiofs_map.specs.FirstRule.{CountsFronts, acts, pattern, shared}
+use Rattle.virtiofs_map.specs.FirstRule.{acts, pattern, shared}
 use Rattle.virtiofs_map.specs.Names.{begins, first}
 use Rattle.virtiofs_map.specs.PatternTrie.{nodes_in_all}
 use Rattle.virtiofs_map.specs.Rule.{MappingRule, HasNoZero, type_number}
@@ -132,33 +131,14 @@ pub record IsPattern (side : Side) (rules : List MappingRule) (bytes : List ℕ)
 abbrev pub patterns_on : Side → List MappingRule → List (List ℕ)
 patterns_on side rules = map (pattern side) (filter (acts side) rules)
 
--- the patterns of the rules that act on the side, one for each rule
-pub record ArePatterns (side : Side) (rules : List MappingRule) (bytes : List ℕ) (patterns : List Pattern) : Type
-    0 where
-  pub texts : IsPermutation (patterns_on side rules) (map (λ one. one.bytes.now) patterns)
-  pub each : All (IsPattern side rules bytes) patterns
-  pub every : (place : ℕ) (rule : MappingRule) → slice_get rules place ≡ Some rule → acts side rule ≡ true
-      → (one : Pattern) × Contains patterns one × (one.bytes.now ≡ pattern side rule)
-      × (one.answer ≡ 4 * place + type_number rule.kind)
-
 -- the patterns of the rules before a place that act on the side, one for each rule
-pub record ArePatternsBelow (side : Side) (rules : List MappingRule) (bytes : List ℕ) (end : ℕ)
-    (patterns : List Pattern) : Type 0 where
-  pub texts : patterns_on side (take end rules) ≡ map (λ one. one.bytes.now) patterns
+pub record ArePatterns (side : Side) (rules : List MappingRule) (bytes : List ℕ) (end : ℕ) (patterns : List Pattern) : Type
+    0 where
+  pub texts : IsPermutation (patterns_on side (take end rules)) (map (λ one. one.bytes.now) patterns)
   pub each : All (IsPattern side rules bytes) patterns
   pub every : (place : ℕ) (rule : MappingRule) → place < end → slice_get rules place ≡ Some rule → acts side rule ≡ true
       → (one : Pattern) × Contains patterns one × (one.bytes.now ≡ pattern side rule)
       × (one.answer ≡ 4 * place + type_number rule.kind)
-
--- the byte of a pattern at a depth; 0 where the pattern has ended
-abbrev pub byte_at : ℕ → Pattern → ℕ
-byte_at depth one = slice_index one.bytes.now depth
-
--- patterns that share a front stand in the order of their next bytes, those that have ended first
-pub record AreInOrder (patterns : List Pattern) : Type 0 where
-  pub rising : (i j depth : ℕ) (one other : Pattern) → i < j → slice_get patterns i ≡ Some one
-      → slice_get patterns j ≡ Some other
-      → take depth one.bytes.now ≡ take depth other.bytes.now → byte_at depth one ≤ byte_at depth other
 
 -- ---- nodes as rows of bytes
 
@@ -281,11 +261,6 @@ pub record IsTrieIn (side : Side) (rules : List MappingRule) (image : List ℕ) 
 pub record Passes (side : Side) (rules : List MappingRule) (name : List ℕ) (answer passed : ℕ) : Type 0 where
   pub answers : answer ≡ answer_of side rules name
   pub no_zero : All HasNoZero rules → All (λ byte. byte ≢ 0) (take passed name)
-
--- a walk found the answer of a name, and counted one step more than the most bytes that the name shares with a pattern
-pub record CountsWalk (side : Side) (rules : List MappingRule) (name : List ℕ) (answer before after : ℕ) : Type 0 where
-  pub answers : answer ≡ answer_of side rules name
-  pub counted : CountsFronts side rules name before after
 
 -- ---- a step of a walk
 

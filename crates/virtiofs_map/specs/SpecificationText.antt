@@ -18,12 +18,6 @@ use Rattle.virtiofs_map.specs.declared.cmdline.IdMapError.TheVariants as errors
 abbrev pub is_word_character : ℕ → Bool
 is_word_character c = is_alphanumeric c || (c == 45) || (c == 95)
 
--- the text is a prefix of word characters, then a separator that is no word character, and then the rest
-pub record IsCut (text prefix : List ℕ) (separator : ℕ) (rest : List ℕ) : Type 0 where
-  pub whole : text ≡ prefix ++ separator ∷ rest
-  pub word : AllPass is_word_character prefix
-  pub ends : is_word_character separator ≡ false
-
 -- the text with its ASCII letters in lower case
 abbrev pub lowered : List ℕ → List ℕ
 lowered text = map to_ascii_lowercase text
@@ -46,14 +40,27 @@ numbers_of (SquashHost from_host to_guest count) = from_host ∷ to_guest ∷ co
 numbers_of (Bidirectional guest host count) = guest ∷ host ∷ count ∷ []
 numbers_of (ForbidGuest from_guest count) = from_guest ∷ count ∷ []
 
--- the text means the specification: it is its word, in upper or lower case, and its numbers between separators
-pub record Says (text : List ℕ) (spec : IdMap) : Type 0 where
+-- the text is a prefix of word characters, which is `word` in lower case, then a separator that is no word character, and
+-- then the fields, between which that separator stands
+pub record HasParts (text word : List ℕ) (fields : List (List ℕ)) : Type 0 where
   pub prefix : List ℕ
   pub separator : ℕ
   pub rest : List ℕ
-  pub cut : IsCut text prefix separator rest
-  pub word : lowered prefix ≡ word_of spec
-  pub numbers : AllZip IsNumeral (split_at_each separator rest) (numbers_of spec)
+  pub whole : text ≡ prefix ++ separator ∷ rest
+  pub passed : AllPass is_word_character prefix
+  pub ends : is_word_character separator ≡ false
+  pub lower : word ≡ lowered prefix
+  pub split : fields ≡ split_at_each separator rest
+
+-- no character of the text is a separator
+abbrev pub HasNoSeparator : List ℕ → Type 0
+HasNoSeparator text = AllPass is_word_character text
+
+-- the text means the specification: it is its word, in upper or lower case, and its numbers between separators
+pub record Says (text : List ℕ) (spec : IdMap) : Type 0 where
+  pub fields : List (List ℕ)
+  pub parts : HasParts text (word_of spec) fields
+  pub numbers : AllZip IsNumeral fields (numbers_of spec)
 
 -- the field is no numeral, and each field before it is one
 pub record IsFirstNonNumeral (fields : List (List ℕ)) (field : List ℕ) : Type 0 where
@@ -64,56 +71,36 @@ pub record IsFirstNonNumeral (fields : List (List ℕ)) (field : List ℕ) : Typ
   pub read : AllZip IsNumeral before values
   pub unread : (value : ℕ) → ¬ IsNumeral field value
 
--- after the prefix, the text has that many fields, and each is a numeral
-pub record HasNumerals (text prefix : List ℕ) (seen : ℕ) : Type 0 where
-  pub separator : ℕ
-  pub rest : List ℕ
-  pub values : List ℕ
-  pub cut : IsCut text prefix separator rest
-  pub numbers : AllZip IsNumeral (split_at_each separator rest) values
-  pub count : length values ≡ seen
-
--- no character of the text is a separator
-abbrev pub HasNoSeparator : List ℕ → Type 0
-HasNoSeparator text = AllPass is_word_character text
-
--- the field is the first one of the text that is no numeral
-pub record HasNonNumeral (text field : List ℕ) : Type 0 where
-  pub prefix : List ℕ
-  pub separator : ℕ
-  pub rest : List ℕ
-  pub cut : IsCut text prefix separator rest
-  pub first : IsFirstNonNumeral (split_at_each separator rest) field
-
--- each field is a numeral; `word` is the prefix in lower case, and it is not the word of any specification
-pub record HasUnknownPrefix (text word : List ℕ) : Type 0 where
-  pub prefix : List ℕ
-  pub seen : ℕ
-  pub numerals : HasNumerals text prefix seen
-  pub is : word ≡ lowered prefix
-  pub unknown : (spec : IdMap) → lowered prefix ≢ word_of spec
-
--- each field is a numeral, and the prefix is the word of a specification that takes another count of numbers
-pub record HasWrongCount (text : List ℕ) (expected seen : ℕ) : Type 0 where
-  pub prefix : List ℕ
-  pub spec : IdMap
-  pub numerals : HasNumerals text prefix seen
-  pub word : lowered prefix ≡ word_of spec
-  pub takes : length (numbers_of spec) ≡ expected
-  pub other : seen ≢ expected
-
 -- what is wrong with a text that says no specification
 pub data SpecificationFault : Type 0 where
   InvalidPrefix : List ℕ → SpecificationFault
   InvalidLength : ℕ → ℕ → SpecificationFault
   InvalidValue : List ℕ → SpecificationFault
 
--- the text has that fault
-abbrev pub HasSpecificationFault : List ℕ → SpecificationFault → Type 0
-HasSpecificationFault text (InvalidLength expected seen) =
-    (HasNoSeparator text × (expected ≡ 1) × (seen ≡ 0)) ⊎ HasWrongCount text expected seen
-HasSpecificationFault text (InvalidValue field) = HasNonNumeral text field
-HasSpecificationFault text (InvalidPrefix word) = HasUnknownPrefix text word
+-- the fault is that of the first field that is no numeral
+abbrev pub IsFieldsFault : List (List ℕ) → SpecificationFault → Type 0
+IsFieldsFault fields fault = (field : List ℕ) × (fault ≡ InvalidValue field) × IsFirstNonNumeral fields field
+
+-- the fault is that there is another count of numbers
+abbrev pub IsCountFault : ℕ → List ℕ → SpecificationFault → Type 0
+IsCountFault count numbers fault = (fault ≡ InvalidLength count (length numbers)) × (length numbers ≢ count)
+
+-- the fault is that the word is that of no specification, or of one that takes another count of numbers
+abbrev pub IsWordFault : List ℕ → List ℕ → SpecificationFault → Type 0
+IsWordFault word numbers fault =
+    ((fault ≡ InvalidPrefix word) × ((spec : IdMap) → word ≢ word_of spec))
+    ⊎ ((spec : IdMap) × (word ≡ word_of spec) × IsCountFault (length (numbers_of spec)) numbers fault)
+
+-- the fault is that of the fields, or, if each of them is a numeral, that of the word
+abbrev pub IsPartsFault : List ℕ → List (List ℕ) → SpecificationFault → Type 0
+IsPartsFault word fields fault =
+    IsFieldsFault fields fault ⊎ ((numbers : List ℕ) × AllZip IsNumeral fields numbers × IsWordFault word numbers fault)
+
+-- the text has that fault: it has no separator, or its word and its fields have the fault
+unfoldable pub HasSpecificationFault : List ℕ → SpecificationFault → Type 0
+HasSpecificationFault text fault =
+    (HasNoSeparator text × (fault ≡ InvalidLength 1 0))
+    ⊎ ((word : List ℕ) × (fields : List (List ℕ)) × HasParts text word fields × IsPartsFault word fields fault)
 
 -- the fault that an error reports; none if the error is out of memory
 abbrev pub specification_fault_of : {A : Type 0} → IdMapError A → Option SpecificationFault

@@ -1,9 +1,9 @@
 -- What holds while a trie of patterns is built. Only private functions cite these definitions.
 use Rattle.std.specs.Prelude.{◌≡◌, ◌≢◌, ◌⊎◌, ℕ, ◌+◌, ◌-◌, ◌<◌, ◌≤◌, Bool, false, List, [], ◌++◌, length, take, drop, All}
-use Rattle.std.specs.Prelude.{suc, map, Some, slice_get, slice_index, sum_by, ◌==◌, ◌&&◌, not, if◌then◌else◌}
-use Rattle.std.specs.Option.{option_map_or}
+use Rattle.std.specs.Prelude.{suc, true, map, Some, slice_get, slice_index, slice_index_or, sum_by, ◌==◌, ◌&&◌, not, if◌then◌else◌}
 use Rattle.virtiofs_map.specs.KeyedParts.{AreBytes, word_of}
-use Rattle.virtiofs_map.specs.NodeParts.{no_answer, AreInOrder, AreRowsOf}
+use Rattle.virtiofs_map.specs.NodeParts.{no_answer, AreRowsOf}
+use Rattle.virtiofs_map.specs.Names.{begins}
 use Rattle.virtiofs_map.specs.PatternTrie.{nodes_in_all, places_below}
 use Rattle.virtiofs_map.specs.declared.xattrmap.trie.node.Node.{Node}
 use Rattle.virtiofs_map.specs.declared.xattrmap.trie.build.PatternRange.{PatternRange}
@@ -20,47 +20,48 @@ pub record IsReady (most : ℕ) (one : Pattern) : Type 0 where
   pub first : one.first ≡ word_of one.bytes.now
   pub second : one.second ≡ word_of (drop 8 one.bytes.now)
 
--- patterns of which a trie can be made
-pub record AreReady (most : ℕ) (patterns : List Pattern) : Type 0 where
-  pub each : All (IsReady most) patterns
-  pub order : AreInOrder patterns
-
 abbrev pub texts_of : List Pattern → List (List ℕ)
 texts_of patterns = map (λ one. one.bytes.now) patterns
 
--- the bytes of the pattern at a place
-unfoldable pub text : List Pattern → ℕ → List ℕ
-text patterns at = option_map_or (λ one. one.bytes.now) (slice_get patterns at) []
+-- the pattern at a place; past all of them, one without bytes
+abbrev pub pattern_at : List Pattern → ℕ → Pattern
+pattern_at patterns at =
+    slice_index_or patterns at
+    (record { bytes = record { ref_ptr = (0, 0); now = [] }; start = 0; answer = no_answer; first = 0; second = 0 })
 
--- the answer of the pattern at a place
-unfoldable pub number : List Pattern → ℕ → ℕ
-number patterns at = option_map_or (λ one. one.answer) (slice_get patterns at) no_answer
+-- its bytes
+abbrev pub text : List Pattern → ℕ → List ℕ
+text patterns at = (pattern_at patterns at).bytes.now
 
--- where the pattern at a place begins among all bytes
-unfoldable pub start_of : List Pattern → ℕ → ℕ
-start_of patterns at = option_map_or (λ one. one.start) (slice_get patterns at) 0
+-- patterns of which a trie can be made: those that share a front stand in the order of their next bytes, first those
+-- that have ended
+pub record AreReady (most : ℕ) (patterns : List Pattern) : Type 0 where
+  pub each : All (IsReady most) patterns
+  pub rising : (i j depth : ℕ) → i ≤ j → j < length patterns
+      → take depth (text patterns i) ≡ take depth (text patterns j)
+      → slice_index (text patterns i) depth ≤ slice_index (text patterns j) depth
 
 -- ---- the least answer
 
 -- the value is the least answer of those patterns that are chosen, or that of no rule if none is chosen
 pub record IsLeast (patterns : List Pattern) (chosen : ℕ → Type 0) (value : ℕ) : Type 0 where
   pub top : value ≤ no_answer
-  pub below : (i : ℕ) → chosen i → value ≤ number patterns i
-  pub met : (value ≡ no_answer) ⊎ ((i : ℕ) × chosen i × (number patterns i ≡ value))
+  pub below : (i : ℕ) → chosen i → value ≤ (pattern_at patterns i).answer
+  pub met : (value ≡ no_answer) ⊎ ((i : ℕ) × chosen i × ((pattern_at patterns i).answer ≡ value))
 
 -- ---- ranges
 
--- the path of a range starts with the pattern at that place, and is longer
-pub record IsInside (patterns : List Pattern) (range : PatternRange) (i : ℕ) : Type 0 where
-  pub within : i < length patterns
-  pub short : length (text patterns i) < range.depth
-  pub front : take (length (text patterns i)) (text patterns range.low) ≡ text patterns i
+-- the path of a range
+abbrev pub path_of_range : List Pattern → PatternRange → List ℕ
+path_of_range patterns range = take range.depth (text patterns range.low)
 
 -- the path of a range starts with the pattern at that place
-pub record IsUpto (patterns : List Pattern) (range : PatternRange) (i : ℕ) : Type 0 where
-  pub within : i < length patterns
-  pub short : length (text patterns i) ≤ range.depth
-  pub front : take (length (text patterns i)) (text patterns range.low) ≡ text patterns i
+abbrev pub IsUpto : List Pattern → PatternRange → ℕ → Type 0
+IsUpto patterns range i = (i < length patterns) × (begins (text patterns i) (path_of_range patterns range) ≡ true)
+
+-- and is longer
+abbrev pub IsInside : List Pattern → PatternRange → ℕ → Type 0
+IsInside patterns range i = IsUpto patterns range i × (length (text patterns i) < range.depth)
 
 -- a range has exactly the patterns that start with its path (the bytes that lead to it), and its answer is the
 -- least of those of the shorter patterns that its path starts with
@@ -85,10 +86,6 @@ hole = record { low = 0; high = 0; depth = 1; length = 0; answer = no_answer; fi
 abbrev pub IsRangeOrHole : List Pattern → PatternRange → Type 0
 IsRangeOrHole patterns range = IsPatternRange patterns range ⊎ (range ≡ hole)
 
--- the path of a range
-abbrev pub path_of_range : List Pattern → PatternRange → List ℕ
-path_of_range patterns range = take range.depth (text patterns range.low)
-
 -- how many places are below a range; none below a hole
 unfoldable pub below : List Pattern → PatternRange → ℕ
 below patterns range =
@@ -110,13 +107,18 @@ pub record GoOnFrom (patterns : List Pattern) (range : PatternRange) (from : ℕ
   pub ended : (i : ℕ) → range.low ≤ i → i < from → length (text patterns i) ≡ range.depth
   pub longer : range.depth < length (text patterns from)
 
--- a child has the patterns of a range from one place to another, which are all those that go on with its byte; its
--- label is as long as they share bytes, but no longer than a label can be
-pub record IsKid (patterns : List Pattern) (range : PatternRange) (answer : ℕ) (kid : PatternRange) : Type 0 where
-  pub from : range.low ≤ kid.low
-  pub some : kid.low < kid.high
-  pub upto : kid.high ≤ range.high
-  pub answered : kid.answer ≡ answer
+-- the patterns of a range from one place to another are all those that go on with the byte of the first of them
+pub record IsGroup (patterns : List Pattern) (range : PatternRange) (low high : ℕ) : Type 0 where
+  pub from : range.low ≤ low
+  pub some : low < high
+  pub upto : high ≤ range.high
+  pub bytes : (i : ℕ) → low ≤ i → i < high → next_of patterns range i ≡ next_of patterns range low
+  pub all : (i : ℕ) → range.low ≤ i → i < range.high → next_of patterns range i ≡ next_of patterns range low
+      → (low ≤ i) × (i < high)
+
+-- a child has such patterns of a range; its label is as long as they share bytes, but no longer than a label can be
+pub record IsKid (patterns : List Pattern) (range kid : PatternRange) : Type 0 where
+  pub group : IsGroup patterns range kid.low kid.high
   pub first_byte : kid.first_byte ≡ next_of patterns range kid.low
   pub depth : kid.depth ≡ range.depth + 1 + kid.length
   pub size : kid.length < 256
@@ -126,33 +128,24 @@ pub record IsKid (patterns : List Pattern) (range : PatternRange) (answer : ℕ)
   pub stops : kid.length < 255 → kid.depth < length (text patterns kid.low)
       → kid.depth < length (text patterns (kid.high - 1))
       → slice_index (text patterns kid.low) kid.depth ≢ slice_index (text patterns (kid.high - 1)) kid.depth
-  pub bytes : (i : ℕ) → kid.low ≤ i → i < kid.high → next_of patterns range i ≡ next_of patterns range kid.low
-  pub group : (i : ℕ) → range.low ≤ i → i < range.high → next_of patterns range i ≡ next_of patterns range kid.low
-      → (kid.low ≤ i) × (i < kid.high)
 
--- the place has a child of a range or is a hole; where the children are not sparse, each stands as far behind the
--- first place as its byte behind the lowest
-pub record IsKidOrHole (patterns : List Pattern) (range : PatternRange) (lowest : ℕ) (is_sparse : Bool) (at : ℕ)
-    (kid : PatternRange) : Type 0 where
-  pub place : IsRangeOrHole patterns kid
-  pub answer : ℕ
-  pub is : kid.first_byte ≢ 0 → IsKid patterns range answer kid
-  pub placed : kid.first_byte ≢ 0 → is_sparse ≡ false → kid.first_byte ≡ lowest + at
+-- the place has a child of a range or is a hole
+abbrev pub IsKidOrHole : List Pattern → PatternRange → PatternRange → Type 0
+IsKidOrHole patterns range kid = (IsPatternRange patterns kid × IsKid patterns range kid) ⊎ (kid ≡ hole)
 
--- the byte leads to one of the children
-pub record HasKid (kids : List PatternRange) (byte : ℕ) : Type 0 where
-  pub at : ℕ
-  pub kid : PatternRange
-  pub here : slice_get kids at ≡ Some kid
-  pub first_byte : kid.first_byte ≡ byte
+-- the place at an index; past all of them a hole
+abbrev pub range_at : List PatternRange → ℕ → PatternRange
+range_at ranges at = slice_index_or ranges at hole
 
--- the places have the children of a range for its patterns before one, and holes
+-- the places have the children of a range for its patterns before one, and holes; where the children are not sparse,
+-- each stands as far behind the first place as its byte behind the lowest
 pub record AreKids (patterns : List Pattern) (kids : List PatternRange) (range : PatternRange) (lowest : ℕ)
     (is_sparse : Bool) (upto : ℕ) : Type 0 where
-  pub each : (at : ℕ) (kid : PatternRange) → slice_get kids at ≡ Some kid
-      → IsKidOrHole patterns range lowest is_sparse at kid
+  pub each : All (IsKidOrHole patterns range) kids
+  pub placed : is_sparse ≡ false → (at : ℕ) → at < length kids → (range_at kids at).first_byte ≢ 0
+      → (range_at kids at).first_byte ≡ lowest + at
   pub complete : (i : ℕ) → range.low ≤ i → i < upto → range.depth < length (text patterns i)
-      → HasKid kids (next_of patterns range i)
+      → (at : ℕ) × (at < length kids) × ((range_at kids at).first_byte ≡ next_of patterns range i)
 
 -- the places are as many as are below a range, with those that are below them
 abbrev pub AreAllBelow : List Pattern → List PatternRange → PatternRange → Type 0
@@ -176,7 +169,7 @@ pub record IsBuilt (patterns : List Pattern) (kids : List PatternRange) (range :
   pub answer : node.answer ≤ no_answer
   pub first_byte : node.first_byte ≡ range.first_byte
   pub size : node.length ≡ range.length
-  pub label : range.low < range.high → node.label + range.length ≡ start_of patterns range.low + range.depth
+  pub label : range.low < range.high → node.label + range.length ≡ (pattern_at patterns range.low).start + range.depth
   pub bare : range.low ≡ range.high → node.label ≡ 0
   pub width : node.width ≡ length kids
   pub low_byte : 1 ≤ node.low_byte
@@ -186,14 +179,13 @@ pub record IsBuilt (patterns : List Pattern) (kids : List PatternRange) (range :
 
 -- the places have ranges or are holes, and the first ones have nodes, the very first that of the root
 pub record AreBuilt (patterns : List Pattern) (ranges : List PatternRange) (nodes : List Node) : Type 0 where
-  pub places : (at : ℕ) (range : PatternRange) → slice_get ranges at ≡ Some range → IsRangeOrHole patterns range
+  pub places : All (IsRangeOrHole patterns) ranges
   pub counted : length nodes ≤ length ranges
   pub some : 0 < length ranges
-  pub root : (range : PatternRange) → slice_get ranges 0 ≡ Some range → range.depth ≡ 0
+  pub root : (range_at ranges 0).depth ≡ 0
   pub within : (at : ℕ) (node : Node) → slice_get nodes at ≡ Some node → node.base + node.width ≤ length ranges
-  pub each : (at : ℕ) (range : PatternRange) (node : Node) → slice_get ranges at ≡ Some range
-      → slice_get nodes at ≡ Some node
-      → IsBuilt patterns (take node.width (drop node.base ranges)) range node
+  pub each : (at : ℕ) (node : Node) → slice_get nodes at ≡ Some node
+      → IsBuilt patterns (take node.width (drop node.base ranges)) (range_at ranges at) node
 
 -- the first places have nodes, so many, the rows are those of these, and with what is below the others the places are
 -- as many as nodes are to be in all

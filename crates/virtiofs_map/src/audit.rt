@@ -43,7 +43,6 @@ mod candidates;
 mod deciding;
 mod gathered;
 mod least;
-mod ordered;
 mod passing;
 mod question;
 mod terminated;
@@ -52,7 +51,7 @@ use crate::steps::Steps;
 use crate::xattrmap::{XattrMap, XattrName};
 pub use answer::Audit;
 pub use asking::{NameFault, ask};
-use candidates::least_guest_name;
+use candidates::least_bad_name;
 use question::Question;
 use std::alloc::{AllocError, Allocator};
 
@@ -97,7 +96,7 @@ pub fn audit_counted<A: Allocator + Copy>(
         other: map,
         beginning,
     };
-    least_guest_name(alloc, &question, steps)
+    least_bad_name(alloc, &question, steps)
 }
 
 /// Whether the second map (`q`) hides every non-empty host name that a guest with the first map
@@ -139,9 +138,9 @@ pub fn keeps_apart<A: Allocator + Copy>(
 /// The answer is `Yes` for (first, second) if and only if it is `Yes` for (second, first). It says
 /// nothing about lists, which may show a guest names that it does not reach: see [`keeps_apart`].
 ///
-/// Memory: space for the keys and the prepends of the rules, and twice for the prepends of the second
-/// map, for the longest name of the host that is looked up, and for a few names of the first guest
-/// that pass as what both guests reach.
+/// Memory: space for the keys and the prepends of the rules, and for the prepends of the second map,
+/// for the longest name of the host that is looked up, and for a few names of the first guest that
+/// pass as what both guests reach.
 ///
 /// # Errors
 ///

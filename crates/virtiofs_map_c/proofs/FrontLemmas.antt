@@ -3,9 +3,8 @@ use Rattle.std.proofs.Common.{◌≡◌, ◌+◌, ◌<◌, ◌≤◌, ◌∙◌,
 use Rattle.std.proofs.Common.{sym, ap, arith, append_assoc, append-nil, take_all, take_at, drop_at, drop-drop}
 use Rattle.std.proofs.Common.{drop_of_length-le, length-set, rules}
 use Rattle.std.proofs.lemmas.List.{take-append-le, set_split, length_push}
-use Rattle.virtiofs_map_c.specs.Codes.{ok, no_room}
-use Rattle.virtiofs_map_c.specs.Front.{IsFront, cut_text}
-use Rattle.virtiofs_map_c.specs.Replies.{TellsFront}
+use Rattle.virtiofs_map_c.specs.Faults.{ok, no_room}
+use Rattle.virtiofs_map_c.specs.Replies.{IsFront, TellsFront, cut_text}
 
 -- the buffer before the first byte
 pub IsFront-start : (out : List ℕ) → IsFront out 0 out

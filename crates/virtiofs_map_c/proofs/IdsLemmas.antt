@@ -2,7 +2,7 @@
 use Rattle.std.proofs.Common.{◌≡◌, ◌≢◌, ℕ, Option, arith}
 use Rattle.virtiofs_map.specs.ImageAnswer.{SaysValue}
 use Rattle.virtiofs_map.specs.declared.soft_idmap.row.Answer.{Answer}
-use Rattle.virtiofs_map_c.specs.Codes.{ok}
+use Rattle.virtiofs_map_c.specs.Faults.{ok}
 use Rattle.virtiofs_map_c.specs.Ids.{TellsId, IsIdCode, IsAnswerTold}
 
 -- the value

@@ -5,8 +5,6 @@ mod IdsLemmas
 mod ListsLemmas
 mod MakesLemmas
 mod NamesLemmas
-mod QuoteLemmas
-mod RangesLemmas
 mod RulesLemmas
 mod ShownLemmas
 mod TextsLemmas

@@ -5,12 +5,9 @@ use Rattle.std.proofs.lemmas.Bool.{cases_order}
 use Rattle.std.proofs.lemmas.List.{take_more}
 use Rattle.std.proofs.lemmas.Option.{slice_get-get_or}
 use Rattle.std.specs.List.{AllZip}
-use Rattle.std.specs.Option.{option_map}
-use Rattle.virtiofs_map.specs.Build.{BuildFault, HasFirstFault}
-use Rattle.virtiofs_map.specs.Refusal.{OutOfMemoryOr}
 use Rattle.virtiofs_map.specs.declared.cmdline.IdMap.{IdMap as Specification}
 use Rattle.virtiofs_map.proofs.ForCallers.{AllZip-push, AllZip-one, build_no_fault, build_one_fault}
-use Rattle.virtiofs_map_c.specs.Lists.{ListFault, Unread, Unbuilt, HasListFault, HasUnread, SaysAccepted}
+use Rattle.virtiofs_map_c.specs.Arrays.{ListFault, Unread, Unbuilt, HasListFault, HasUnread, SaysAccepted}
 
 module _ {X F : Type 0} (Says : X → Specification → Type 0) (Has : X → F → Type 0) where
   -- one more
@@ -20,16 +17,9 @@ module _ {X F : Type 0} (Says : X → Specification → Type 0) (Has : X → F �
       rw (take_more xs i d below) (AllZip-push Says (take i xs) list (get_or xs i d) one are here)
 
   -- one that says none, after those that do
-  pub unread_here : (xs : List X) (list : List Specification) (i : ℕ) (d : X) (told : Option F) → i < length xs
-      → AllZip Says (take i xs) list → OutOfMemoryOr told (Has (get_or xs i d))
-      → OutOfMemoryOr (option_map (Unread i) told) (HasListFault Says Has xs)
-  unread_here xs list i d None below are wrong = tt
-  unread_here xs list i d (Some fault) below are wrong = search (rules, slice_get-get_or)
-
-  -- they say a list of which no map is made
-  pub unbuilt_here : (xs : List X) (list : List Specification) (told : Option BuildFault) → AllZip Says xs list
-      → OutOfMemoryOr told (HasFirstFault list) → OutOfMemoryOr (option_map Unbuilt told) (HasListFault Says Has xs)
-  unbuilt_here xs list told are refused = grind arith
+  pub unread_here : (xs : List X) (list : List Specification) (i : ℕ) (d : X) (fault : F) → i < length xs
+      → AllZip Says (take i xs) list → Has (get_or xs i d) fault → HasUnread Says Has xs i fault
+  unread_here xs list i d fault below are wrong = search (rules, slice_get-get_or)
 
   module _ (never : (x : X) (one : Specification) (fault : F) → Says x one → ¬ Has x fault) where
     -- where each element says one, none has a fault

@@ -1,7 +1,7 @@
 -- What a call tells that makes something, from what it refuses: out of memory where there is no fault, and else the one
 -- that there is.
 use Rattle.std.proofs.Common.{◌≡◌, Option, arith}
-use Rattle.virtiofs_map_c.specs.Makes.{TellsFault, MakesOrTells, TellsThis}
+use Rattle.virtiofs_map_c.specs.Faults.{TellsFault, MakesOrTells, TellsThis}
 
 -- there is no fault
 pub refused_complete : {F : Type 0} (made : Type 0) (has : F → Type 0) (is_told : Option F → Type 0)

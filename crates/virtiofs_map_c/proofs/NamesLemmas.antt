@@ -7,7 +7,7 @@ use Rattle.virtiofs_map.specs.Audit.{AnswersLeast, Within}
 use Rattle.virtiofs_map.specs.declared.audit.answer.Audit.{Audit}
 use Rattle.virtiofs_map.specs.NamesImage.{WritesList}
 use Rattle.virtiofs_map.specs.declared.xattrmap.image.Decision.{Decision}
-use Rattle.virtiofs_map_c.specs.Codes.{ok, no_memory}
+use Rattle.virtiofs_map_c.specs.Faults.{ok, no_memory}
 use Rattle.virtiofs_map_c.specs.Names.{IsClientCode, TellsDecision, TellsFound, TellsLeast, TellsNo, TellsServer}
 use Rattle.virtiofs_map.specs.declared.xattrmap.image.ListWritten.TheVariants as lists
 

@@ -9,7 +9,7 @@ use Rattle.virtiofs_map.specs.Names.{HostAnswer, IsListed, IsHidden, IsUndecided
 use Rattle.virtiofs_map.specs.NamesImageParts.{Holds}
 use Rattle.virtiofs_map.specs.Rule.{MappingRule}
 use Rattle.virtiofs_map.proofs.ForCallers.{IsCut, is_name, names_step_name, names_step_none}
-use Rattle.virtiofs_map_c.specs.Shown.{IsFirstShown, IsShownAs, part_of, shown_as, shown_list}
+use Rattle.virtiofs_map_c.specs.Names.{IsFirstShown, IsShownAs, part_of, shown_as, shown_list}
 use Rattle.virtiofs_map_c.specs.declared.names.shown.Shown.{Shown}
 use Rattle.virtiofs_map_c.specs.declared.names.shown.Shown.TheVariants as seen
 

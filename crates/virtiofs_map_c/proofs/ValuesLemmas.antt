@@ -1,5 +1,5 @@
 -- What is told of a value is what the library answers of it.
-use Rattle.std.proofs.Common.{◌≡◌, ◌≢◌, ◌⊎◌, ℕ, List, Result, Ok, Err, arith, rules}
+use Rattle.std.proofs.Common.{◌≡◌, ◌≢◌, ◌⊎◌, inl, ℕ, List, Result, Ok, Err, arith, rules}
 use Rattle.std.specs.Prelude.{IfErr, OnErr}
 use Rattle.std.proofs.lemmas.Bool.{false≢true}
 use Rattle.virtiofs_acl.specs.ValueChanges.{ChangesList, ChangesRoot}
@@ -7,9 +7,8 @@ use Rattle.virtiofs_acl.specs.declared.errors.AclError.{AclError}
 use Rattle.virtiofs_acl.specs.declared.errors.CapabilityError.{CapabilityError}
 use Rattle.virtiofs_map.specs.declared.cmdline.IdMap.{IdMap as Specification}
 use Rattle.virtiofs_map.specs.declared.soft_idmap.entry.Direction.{Direction}
-use Rattle.virtiofs_map_c.specs.Codes.{ok, no_map}
-use Rattle.virtiofs_map_c.specs.Faults.{no_fault}
-use Rattle.virtiofs_map_c.specs.Values.{acl_code, capability_code, IsAclTold, IsCapabilityTold, IsAnswerTold}
+use Rattle.virtiofs_map_c.specs.Faults.{ok, no_map, no_fault}
+use Rattle.virtiofs_map_c.specs.Values.{IsAclTold, IsCapabilityTold, IsAnswerTold}
 use Rattle.virtiofs_map_c.specs.Values.{ChangesAcl, ChangesCapability, IsAclCode, IsRootCode, IsCapabilityCode, AreIds}
 use Rattle.virtiofs_acl.specs.Acl.{IdsBecome, GoesAcross}
 use Rattle.virtiofs_map_c.specs.declared.fault.Fault.{Fault}
@@ -35,34 +34,39 @@ told_no_fault is_told answer code told fails is without = grind arith
 
 -- ---- the codes of errors
 
-acl_error_code : (error : AclError) → IsAclCode (acl_code error) × (acl_code error ≢ ok) × (acl_code error ≢ no_map)
-acl_error_code error = grind arith
+acl_code : (room code : ℕ) (told : Fault) (error : AclError) → IsAclTold room code told error
+    → IsAclCode code × (code ≢ ok) × (code ≢ no_map)
+acl_code room code told error is = grind arith
 
-capability_error_code : (error : CapabilityError)
-    → IsCapabilityCode (capability_code error) × (capability_code error ≢ ok) × (capability_code error ≢ no_map)
-capability_error_code error = grind arith
+capability_code : (code : ℕ) (told : Fault) (error : CapabilityError) → IsCapabilityTold code told error
+    → IsCapabilityCode code × (code ≢ ok) × (code ≢ no_map)
+capability_code code told error is = grind arith
 
-root_error_code : (error : CapabilityError) → error ≢ capabilities.RootMoves → IsRootCode (capability_code error)
-root_error_code error other = grind arith
+root_code : (code : ℕ) (told : Fault) (error : CapabilityError) → IsCapabilityTold code told error
+    → error ≢ capabilities.RootMoves → IsRootCode code
+root_code code told error is other = grind arith
 
 pub acl_fails_otherwise : (room : ℕ) → FailsOtherwise (IsAclTold room)
-acl_fails_otherwise room code told error is = grind (arith, acl_error_code)
+acl_fails_otherwise room code told error is = let all = acl_code room code told error is in (all.1, all.2)
 
 pub capability_fails_otherwise : FailsOtherwise IsCapabilityTold
-capability_fails_otherwise code told error is = grind (arith, capability_error_code)
+capability_fails_otherwise code told error is = let all = capability_code code told error is in (all.1, all.2)
 
 pub tells_acl_code : (room : ℕ) (answer : Result (Unit {0}) AclError) (code : ℕ) (told : Fault)
     → IsAnswerTold (IsAclTold room) answer code told → IsAclCode code
-tells_acl_code room answer code told is = grind (arith, acl_error_code)
+tells_acl_code room (Ok done) code told is = inl is.0
+tells_acl_code room (Err error) code told is = (acl_code room code told error is).0
 
 pub tells_capability_code : (answer : Result (Unit {0}) CapabilityError) (code : ℕ) (told : Fault)
     → IsAnswerTold IsCapabilityTold answer code told → IsCapabilityCode code
-tells_capability_code answer code told is = grind (arith, capability_error_code)
+tells_capability_code (Ok done) code told is = inl (inl is.0)
+tells_capability_code (Err error) code told is = (capability_code code told error is).0
 
 pub tells_root_code : (answer : Result (Unit {0}) CapabilityError) (code : ℕ) (told : Fault)
     → IsAnswerTold IsCapabilityTold answer code told → IfErr answer (λ e. e ≢ capabilities.RootMoves)
     → IsRootCode code
-tells_root_code answer code told is stays = grind (arith, root_error_code)
+tells_root_code (Ok done) code told is stays = inl is.0
+tells_root_code (Err error) code told is stays = root_code code told error is stays
 
 -- ---- where the maps are images
 
@@ -85,11 +89,11 @@ tells_acl users groups direction room old new (Ok done) code told is change = re
   faulty = λ error has. absurd (change.faulty error has);
   leads_back = λ _. change.leads_back;
 }
-tells_acl users groups direction room old new (Err error) code told is change = search (rules, acl_error_code, false≢true)
+tells_acl users groups direction room old new (Err error) code told is change = search (rules, acl_code, false≢true)
 
 pub tells_capability : (users : List Specification) (direction : Direction) (old new : List ℕ)
     (answer : Result (Unit {0}) CapabilityError) (code : ℕ) (told : Fault)
     → IsAnswerTold IsCapabilityTold answer code told → ChangesRoot users direction old new answer
     → ChangesCapability users direction old new code told
 tells_capability users direction old new (Ok done) code told is change = search rules
-tells_capability users direction old new (Err error) code told is change = search (rules, capability_error_code, false≢true)
+tells_capability users direction old new (Err error) code told is change = search (rules, capability_code, false≢true)

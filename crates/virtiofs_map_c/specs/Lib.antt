@@ -1,16 +1,8 @@
 pub mod Arrays
-pub mod Codes
 pub mod Faults
-pub mod Front
 pub mod Ids
-pub mod IdsFound
-pub mod Lists
-pub mod Makes
 pub mod Names
-pub mod Ranges
 pub mod Replies
-pub mod Rules
-pub mod Shown
 pub mod Texts
 pub mod Values
 pub mod Wholes

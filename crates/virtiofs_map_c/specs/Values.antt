@@ -14,9 +14,8 @@ use Rattle.virtiofs_acl.specs.declared.errors.EntryFault.TheVariants.{UnknownTag
 use Rattle.virtiofs_acl.specs.declared.errors.EntryFault.TheVariants.{Merges}
 use Rattle.virtiofs_map.specs.declared.cmdline.IdMap.{IdMap as Specification}
 use Rattle.virtiofs_map.specs.declared.soft_idmap.entry.Direction.{Direction}
-use Rattle.virtiofs_map_c.specs.Codes.{ok, forbidden, refused, no_room, no_map, merges, root_moves, acl_value}
-use Rattle.virtiofs_map_c.specs.Codes.{acl_entry, capability_value, no_id}
-use Rattle.virtiofs_map_c.specs.Faults.{no_fault, told_at}
+use Rattle.virtiofs_map_c.specs.Faults.{ok, forbidden, refused, no_room, no_map, merges, root_moves, acl_value}
+use Rattle.virtiofs_map_c.specs.Faults.{acl_entry, capability_value, no_id, no_fault, told_at, code_of}
 use Rattle.virtiofs_map_c.specs.declared.fault.Fault.{Fault}
 
 -- ---- how a fault is told
@@ -31,43 +30,28 @@ entry_kind Merges = 27
 
 -- why a list does not go across, where room is lent for that many entries
 abbrev pub acl_told : ℕ → AclError → Fault
-acl_told room lists.TooShort = told_at 19 acl_value 0 0 0
-acl_told room (lists.Version version) = record (told_at 20 acl_value 0 0 0) { seen = version }
-acl_told room lists.Length = told_at 21 acl_value 0 0 0
-acl_told room (lists.Room needed) = record (told_at 22 acl_value 0 0 0) { expected = needed; seen = room }
-acl_told room (lists.Entry k fault) = told_at (entry_kind fault) acl_entry k 0 0
-
--- its code
-abbrev pub acl_code : AclError → ℕ
-acl_code (lists.Room needed) = no_room
-acl_code (lists.Entry k NoId) = no_id
-acl_code (lists.Entry k Forbidden) = forbidden
-acl_code (lists.Entry k Merges) = merges
-acl_code error = refused
+acl_told room lists.TooShort = told_at 19 acl_value 0
+acl_told room (lists.Version version) = record (told_at 20 acl_value 0) { seen = version }
+acl_told room lists.Length = told_at 21 acl_value 0
+acl_told room (lists.Room needed) = record (told_at 22 acl_value 0) { expected = needed; seen = room }
+acl_told room (lists.Entry k fault) = told_at (entry_kind fault) acl_entry k
 
 -- why a capability does not
 abbrev pub capability_told : CapabilityError → Fault
-capability_told capabilities.TooShort = told_at 19 capability_value 0 0 0
-capability_told (capabilities.Revision revision) = record (told_at 20 capability_value 0 0 0) { seen = revision }
-capability_told capabilities.Length = told_at 21 capability_value 0 0 0
-capability_told capabilities.NoId = told_at 25 capability_value 0 0 0
-capability_told capabilities.Forbidden = told_at 26 capability_value 0 0 0
-capability_told capabilities.RootMoves = told_at 28 capability_value 0 0 0
-
--- its code
-abbrev pub capability_code : CapabilityError → ℕ
-capability_code capabilities.NoId = no_id
-capability_code capabilities.Forbidden = forbidden
-capability_code capabilities.RootMoves = root_moves
-capability_code error = refused
+capability_told capabilities.TooShort = told_at 19 capability_value 0
+capability_told (capabilities.Revision revision) = record (told_at 20 capability_value 0) { seen = revision }
+capability_told capabilities.Length = told_at 21 capability_value 0
+capability_told capabilities.NoId = told_at 25 capability_value 0
+capability_told capabilities.Forbidden = told_at 26 capability_value 0
+capability_told capabilities.RootMoves = told_at 28 capability_value 0
 
 -- the error is told, with its code
 pub record IsAclTold (room code : ℕ) (told : Fault) (error : AclError) : Type 0 where
-  pub code_told : code ≡ acl_code error
+  pub code_told : code ≡ code_of told
   pub numbers : told ≡ acl_told room error
 
 pub record IsCapabilityTold (code : ℕ) (told : Fault) (error : CapabilityError) : Type 0 where
-  pub code_told : code ≡ capability_code error
+  pub code_told : code ≡ code_of told
   pub numbers : told ≡ capability_told error
 
 -- a code that comes with no fault

@@ -1,8 +1,7 @@
 //! Answers in bytes, in the caller's buffer.
-ghost use Rattle.std.specs.Prelude.{◌≡◌, ◌++◌, length, encode_utf8_all};
-ghost use Rattle.std.specs.Str.{chars};
-ghost use Rattle.virtiofs_map_c.specs.Codes.{ok};
-ghost use Rattle.virtiofs_map_c.specs.Replies.{TellsBytes, IsQuoted, fitting};
+ghost use Rattle.std.specs.Prelude.{◌≡◌, ◌++◌};
+ghost use Rattle.virtiofs_map_c.specs.Faults.{ok};
+ghost use Rattle.virtiofs_map_c.specs.Replies.{TellsBytes};
 
 use crate::codes::{NO_ROOM, OK};
 
@@ -43,34 +42,4 @@ pub fn nothing(code: u32, len: &mut usize) -> u32
 {
     *len = 0;
     code
-}
-
-/// What was quoted of a text.
-#[derive(Clone, Copy)]
-pub struct Quoted {
-    /// How many bytes were written.
-    pub written: usize,
-    /// How many bytes the text has.
-    pub wanted: usize,
-}
-
-/// `count` where there is room for that many bytes, else 0.
-fn fitting(room: usize, count: usize) -> usize
-    ensures { result ≡ fitting room count }
-{
-    if room < count { 0 } else { count }
-}
-
-/// Quotes a text whole, where there is room for it.
-pub fn quote(text: &str, quoted: &mut [u8]) -> Quoted
-    ensures written { result.written
-        ≡ fitting (length quoted.old) (length (encode_utf8_all (chars text.now))) }
-    ensures wanted { result.wanted ≡ length (encode_utf8_all (chars text.now)) }
-    ensures quoted { IsQuoted (encode_utf8_all (chars text.now)) quoted.old quoted.new }
-{
-    let room = quoted.len();
-    let mut wanted = 0;
-    write(text.as_bytes(), OK, quoted, &mut wanted);
-    let written = fitting(room, wanted);
-    Quoted { written, wanted }
 }

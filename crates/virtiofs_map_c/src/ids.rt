@@ -1,31 +1,27 @@
 //! Maps of ids, in the caller's words.
-ghost use Rattle.std.specs.Prelude.{◌≡◌, ◌≢◌, ℕ, ◌+◌, ◌*◌, ◌≤◌, length, min, List, Option, IfOk, IfErr, OnErr};
-ghost use Rattle.virtiofs_map.specs.Build.{HasFirstFault, build_fault_of};
+ghost use Rattle.std.specs.Option.{option_map_or};
+ghost use Rattle.std.specs.Prelude.{◌≡◌, ◌≢◌, ◌⊎◌, ℕ, ◌+◌, ◌*◌, ◌≤◌, length, min, List, Option};
+ghost use Rattle.virtiofs_map.specs.Build.{HasFirstFault};
 ghost use Rattle.virtiofs_map.specs.Mapping.{Becomes};
-ghost use Rattle.virtiofs_map.specs.Refusal.{OutOfMemoryOr};
 ghost use Rattle.virtiofs_map.specs.declared.cmdline.IdMap.{IdMap as Specification};
 ghost use Rattle.virtiofs_map.specs.declared.soft_idmap.entry.Direction.TheVariants.{GuestToHost, HostToGuest};
-ghost use Rattle.virtiofs_map_c.specs.Arrays.{AreSaid, ArrayFault, HasArrayFault, array_fault_of};
-ghost use Rattle.virtiofs_map_c.specs.Codes.{ok, no_map};
-ghost use Rattle.virtiofs_map_c.specs.Faults.{no_fault};
+ghost use Rattle.virtiofs_map_c.specs.Arrays.{AreSaid, ArrayFault, HasArrayFault, IsAccepted};
+ghost use Rattle.virtiofs_map_c.specs.Faults.{ok, no_map, TellsFault, MakesOrTells, TellsThis, IsArrayTold, IsAnswered, no_fault, code_of, build_told, memory_fault};
 ghost use Rattle.virtiofs_map_c.specs.Ids.{AnswersId, TellsId, LeadsBackIfMapped, IsIdCode, IsAnswerTold};
-ghost use Rattle.virtiofs_map_c.specs.Makes.{TellsFault, MakesOrTells, TellsThis, IsArrayTold, IsAnswered, TellsImage, IsAccepted};
-ghost use Rattle.virtiofs_map_c.specs.Texts.{AllSaySpecs, AreAccepted, TextsFault, HasTextsFault, texts_fault_of, texts_number_error_of, IsNumberErrorIn, AreTextsTold};
-ghost use Rattle.virtiofs_map_c.specs.Wholes.{IsIdMap, IsNoIdMap, cleared};
+ghost use Rattle.virtiofs_map_c.specs.Texts.{AllSaySpecs, AreAccepted, TextsFault, HasTextsFault, AreTextsTold};
+ghost use Rattle.virtiofs_map_c.specs.Wholes.{IsIdMap, IsNoIdMap, TellsImage, cleared};
 
 mod audits;
-mod decided;
 
-use crate::arrays::{Spec, read_all, tell};
+use crate::arrays::{Spec, read_all};
 use crate::codes::{FORBIDDEN, NO_ID, NO_MAP, NO_ROOM, OK};
-use crate::errors::{ListError, TextError, UnknownKind};
 use crate::fault::Fault;
-use crate::texts::{read_all as read_texts, tell_of_texts};
+use crate::texts::read_all as read_texts;
 use crate::words::{Words, are_all, clear};
 use std::alloc::Global;
 use virtiofs_map::cmdline;
+use virtiofs_map::soft_idmap::Direction;
 use virtiofs_map::soft_idmap::image::{Answer, look_up, most_words, write_image};
-use virtiofs_map::soft_idmap::{Direction, IdMapBuildError};
 
 #[unsafe(no_mangle)]
 pub extern "C" fn virtiofs_map_ids_bound(count: usize) -> usize
@@ -34,46 +30,42 @@ pub extern "C" fn virtiofs_map_ids_bound(count: usize) -> usize
     most_words(count)
 }
 
+/// Tells why there is no map, and leaves words that are none.
+fn fail(told: Fault, words: &mut [u32], wanted: &mut usize, fault: &mut Fault) -> u32
+    ensures code { result ≡ code_of told }
+    ensures told { fault.new ≡ told }
+    ensures keeps { (wanted.new ≡ 0) × (words.new ≡ cleared words.old) }
+{
+    *wanted = 0;
+    clear(words);
+    fault.tell(told)
+}
+
 /// Writes the map of a list, and tells how many words it has.
 fn make(
     alloc: Global,
     list: &[cmdline::IdMap],
     words: &mut [u32],
     wanted: &mut usize,
-) -> Result<u32, IdMapBuildError>
-    ensures made { IfOk result (λ code. TellsImage list.now words.old code wanted.new words.new) }
-    ensures bound { IfOk result (λ _. wanted.new ≤ 4 + 8 * length list.now) }
-    ensures refused { IfErr result (λ e.
-        OutOfMemoryOr (build_fault_of e) (HasFirstFault list.now)) }
-    ensures keeps { OnErr result (words.new ≡ words.old) }
+    fault: &mut Fault,
+) -> u32
+    ensures made { IsAnswered result → TellsImage list.now words.old result wanted.new words.new }
+    ensures no_fault { IsAnswered result → fault.new ≡ no_fault }
+    ensures bound { wanted.new ≤ 4 + 8 * length list.now }
+    ensures keeps { (¬ IsAnswered result) → (wanted.new ≡ 0) × (words.new ≡ cleared words.old) }
+    ensures refused { IsAnswered result ⊎ ((result ≡ code_of fault.new)
+        × TellsFault (HasFirstFault list.now) (λ wrong. fault.new ≡ option_map_or build_told wrong memory_fault)) }
 {
-    let len = write_image(alloc, list, words)?;
+    let len = match write_image(alloc, list, words) {
+        Ok(len) => len,
+        Err(error) => return fail(Fault::from(error), words, wanted, fault),
+    };
     *wanted = len;
     if words.len() < len {
         clear(words);
-        Ok(NO_ROOM)
-    } else {
-        Ok(OK)
+        return fault.none(NO_ROOM);
     }
-}
-
-/// Writes the map of an array of specifications, and tells how many words it has.
-fn make_of_array(
-    alloc: Global,
-    specs: &[Spec],
-    words: &mut [u32],
-    wanted: &mut usize,
-) -> Result<u32, ListError<UnknownKind>>
-    ensures made { IfOk result (λ code. (list : List Specification) × AreSaid specs.now list
-        × TellsImage list words.old code wanted.new words.new) }
-    ensures bound { IfOk result (λ _. wanted.new ≤ 4 + 8 * length specs.now) }
-    ensures refused { IfErr result (λ e.
-        OutOfMemoryOr (array_fault_of e) (HasArrayFault specs.now)) }
-    ensures keeps { OnErr result (words.new ≡ words.old) }
-{
-    let list = read_all(alloc, specs)?;
-    let code = make(alloc, &list, words, wanted)?;
-    Ok(code)
+    fault.none(OK)
 }
 
 #[unsafe(no_mangle)]
@@ -96,35 +88,10 @@ pub extern "C" fn virtiofs_map_ids_make(
     ensures faulty { (wrong : ArrayFault) → HasArrayFault specs.now wrong
         → TellsThis (IsArrayTold result fault.new) wrong }
 {
-    match make_of_array(alloc, specs, words, wanted) {
-        Ok(code) => fault.set(code, Fault::none()),
-        Err(error) => {
-            *wanted = 0;
-            clear(words);
-            tell(&error, fault)
-        }
+    match read_all(alloc, specs) {
+        Ok(list) => make(alloc, &list, words, wanted, fault),
+        Err(told) => fail(told, words, wanted, fault),
     }
-}
-
-/// Writes the map of texts, and tells how many words it has.
-fn make_of_texts(
-    alloc: Global,
-    texts: &[&[u8]],
-    words: &mut [u32],
-    wanted: &mut usize,
-) -> Result<u32, ListError<TextError>>
-    ensures made { IfOk result (λ code. (list : List Specification) × AllSaySpecs texts.now list
-        × TellsImage list words.old code wanted.new words.new) }
-    ensures bound { IfOk result (λ _. wanted.new ≤ 4 + 8 * length texts.now) }
-    ensures refused { IfErr result (λ e.
-        OutOfMemoryOr (texts_fault_of e) (HasTextsFault texts.now)) }
-    ensures explained { IfErr result (λ e.
-        IsNumberErrorIn (texts_fault_of e) (texts_number_error_of e)) }
-    ensures keeps { OnErr result (words.new ≡ words.old) }
-{
-    let list = read_texts(alloc, texts)?;
-    let code = make(alloc, &list, words, wanted)?;
-    Ok(code)
 }
 
 #[unsafe(no_mangle)]
@@ -150,13 +117,9 @@ pub extern "C" fn virtiofs_map_ids_make_texts(
     ensures faulty { (wrong : TextsFault) → HasTextsFault texts.now wrong
         → TellsThis (AreTextsTold result fault.new quoted.old quoted.new) wrong }
 {
-    match make_of_texts(alloc, texts, words, wanted) {
-        Ok(code) => fault.set(code, Fault::none()),
-        Err(error) => {
-            *wanted = 0;
-            clear(words);
-            tell_of_texts(&error, fault, quoted)
-        }
+    match read_texts(alloc, texts, quoted) {
+        Ok(list) => make(alloc, &list, words, wanted, fault),
+        Err(told) => fail(told, words, wanted, fault),
     }
 }
 

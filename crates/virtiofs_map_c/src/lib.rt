@@ -11,7 +11,6 @@ mod arrays;
 mod buffer;
 mod bytes;
 mod codes;
-mod errors;
 mod fault;
 mod ids;
 mod names;

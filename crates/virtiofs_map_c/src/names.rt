@@ -1,34 +1,35 @@
 //! Maps of attribute names, in the caller's bytes.
 ghost use Rattle.std.specs.List.{before_first};
-ghost use Rattle.std.specs.Prelude.{◌≡◌, ◌≢◌, ◌==◌, ◌↔◌, ◌≤◌, ◌+◌, ◌*◌, ℕ, List, length, IsTrue, false, min};
+ghost use Rattle.std.specs.Prelude.{◌≡◌, ◌≢◌, ◌==◌, ◌↔◌, ◌≤◌, ◌+◌, ◌*◌, ℕ, List, length, IsTrue, false, min, IfOk, IfErr, OnErr, OnOk};
+ghost use Rattle.std.specs.Option.{option_map};
 ghost use Rattle.virtiofs_map.specs.Audit.{HasFault, IsLost, IsStray, IsSeen, IsShared, Terminated};
 ghost use Rattle.virtiofs_map.specs.LookupAnswers.{IsDecidedBy};
 ghost use Rattle.virtiofs_map.specs.Names.{server_answer};
 ghost use Rattle.virtiofs_map.specs.NamesImage.{image_length};
+ghost use Rattle.virtiofs_map.specs.Refusal.{OutOfMemoryOr};
 ghost use Rattle.virtiofs_map.specs.Rule.{MappingRule, Okay, Prefix};
-ghost use Rattle.virtiofs_map_c.specs.Codes.{ok, as_it_is, no_map};
-ghost use Rattle.virtiofs_map_c.specs.Faults.{no_fault};
-ghost use Rattle.virtiofs_map_c.specs.Makes.{IsAnswered, TellsFault, MakesOrTells, TellsThis};
-ghost use Rattle.virtiofs_map_c.specs.Names.{AnswersClient, IsClientCode, TellsNames, TellsServer, TellsLeast, TellsNo};
-ghost use Rattle.virtiofs_map_c.specs.Rules.{BytesSayRules, BytesFault, HasBytesFault, IsBytesTold};
-ghost use Rattle.virtiofs_map_c.specs.Shown.{IsShownCode, TellsShown, shown_as, shown_list};
+ghost use Rattle.virtiofs_map.specs.RulesFault.{NotOfText, rules_fault_of};
+ghost use Rattle.virtiofs_map_c.specs.Faults.{ok, as_it_is, no_map, IsAnswered, TellsFault, MakesOrTells, TellsThis, code_of, no_fault};
+ghost use Rattle.virtiofs_map_c.specs.Names.{AnswersClient, IsClientCode, TellsNames, TellsServer, TellsLeast, TellsNo, IsShownCode, TellsShown, shown_as, shown_list};
+ghost use Rattle.virtiofs_map_c.specs.Replies.{IsQuoted};
+ghost use Rattle.virtiofs_map_c.specs.Texts.{OfText, BytesSayRules, BytesFault, HasBytesFault, IsBytesTold, bytes_told, bytes_quoted};
 ghost use Rattle.virtiofs_map_c.specs.Wholes.{IsNameMap, IsNoNameMap, cleared};
 
 mod lookups;
-mod made;
 mod shown;
 
 use crate::buffer::{nothing, write};
 use crate::bytes::{Bytes, Room, all_of, are_all, before_zero, clear};
-use crate::codes::{HIDDEN, NO_MAP, OK, UNTERMINATED};
+use crate::codes::{HIDDEN, NO_MAP, NO_ROOM, OK, RULE, UNTERMINATED};
 use crate::fault::Fault;
 use lookups::{tell, tell_client, tell_list, tell_none};
-use made::{made, tell_of_rules};
 use shown::{Shown, seen, write_shown};
 use std::alloc::Global;
 use virtiofs_map::audit::{NameFault, ask};
-use virtiofs_map::xattrmap::image::{decide, is_terminated, most_bytes, write_list};
-use virtiofs_map::xattrmap::{Side, XattrMapRef, XattrName};
+use virtiofs_map::xattrmap::image::{ImageWritten, decide, is_terminated, most_bytes, write_list};
+use virtiofs_map::xattrmap::{
+    Error, ErrorKind, PatternField, Side, XattrMap, XattrMapRef, XattrName,
+};
 
 #[unsafe(no_mangle)]
 pub extern "C" fn virtiofs_map_names_bound(text_len: usize) -> usize
@@ -37,6 +38,69 @@ pub extern "C" fn virtiofs_map_names_bound(text_len: usize) -> usize
         → length text ≤ text_len → min (image_length rules) 18446744073709551615 ≤ result }
 {
     most_bytes(text_len)
+}
+
+/// Writes the map of a text, and tells how many bytes it has.
+fn made(
+    alloc: Global,
+    text: &[u8],
+    bytes: &mut [u8],
+    wanted: &mut usize,
+    quoted: &mut [u8],
+) -> Result<u32, Fault>
+    ensures made { IfOk result (λ code. (rules : List MappingRule) × BytesSayRules text.now rules
+        × TellsNames rules bytes.old code wanted.new bytes.new) }
+    ensures unquoted { OnOk result (quoted.new ≡ quoted.old) }
+    ensures refused { IfErr result (λ told. TellsFault (HasBytesFault text.now)
+        (IsBytesTold (code_of told) told quoted.old quoted.new)) }
+    ensures keeps { OnErr result (bytes.new ≡ bytes.old) }
+{
+    let text = match str::from_utf8(text) {
+        Ok(text) => text,
+        Err(_) => return Err(Fault::at(2, RULE, 0)),
+    };
+    let map = match XattrMap::try_from(alloc, text) {
+        Ok(map) => map,
+        Err(error) => return Err(told_of_rules(&error, quoted)),
+    };
+    match map.write_image(bytes) {
+        ImageWritten::Written(count) => {
+            *wanted = count;
+            Ok(OK)
+        }
+        ImageWritten::NoRoom(count) => {
+            clear(bytes);
+            *wanted = count;
+            Ok(NO_ROOM)
+        }
+        ImageWritten::TooLong => Err(Fault::of_kind(1)),
+    }
+}
+
+/// What C is told of an error of a text of rules.
+fn told_of_rules(error: &Error, quoted: &mut [u8]) -> Fault
+    requires { OutOfMemoryOr (rules_fault_of error.now) (λ fault. fault ≢ NotOfText) }
+    ensures told { result
+        ≡ bytes_told (length quoted.old) (option_map OfText (rules_fault_of error.now)) }
+    ensures quoted { IsQuoted
+        (bytes_quoted (option_map OfText (rules_fault_of error.now))) quoted.old quoted.new }
+{
+    let number = error.rule.unwrap_or(0);
+    match &error.cause {
+        ErrorKind::InvalidScope { got, .. } => Fault::at(12, RULE, number).quoting(got, quoted),
+        ErrorKind::InvalidType { got, .. } => Fault::at(13, RULE, number).quoting(got, quoted),
+        ErrorKind::IncompleteRule => Fault::at(14, RULE, number),
+        ErrorKind::MapRuleViolation => Fault::at(15, RULE, number),
+        ErrorKind::NoRulesProvided => Fault::at(16, RULE, 0),
+        ErrorKind::NulInPattern {
+            pattern: PatternField::Key,
+        } => Fault::at(17, RULE, number),
+        ErrorKind::NulInPattern {
+            pattern: PatternField::Prepend,
+        } => Fault::at(18, RULE, number),
+        ErrorKind::OutOfMemory => Fault::of_kind(1),
+        _ => Fault::of_kind(0),
+    }
 }
 
 #[unsafe(no_mangle)]
@@ -60,12 +124,12 @@ pub extern "C" fn virtiofs_map_names_make(
     ensures faulty { (wrong : BytesFault) → HasBytesFault text.now wrong
         → TellsThis (IsBytesTold result fault.new quoted.old quoted.new) wrong }
 {
-    match made(alloc, text, bytes, wanted) {
-        Ok(code) => fault.set(code, Fault::none()),
-        Err(error) => {
+    match made(alloc, text, bytes, wanted, quoted) {
+        Ok(code) => fault.none(code),
+        Err(told) => {
             *wanted = 0;
             clear(bytes);
-            tell_of_rules(&error, fault, quoted)
+            fault.tell(told)
         }
     }
 }
@@ -154,16 +218,9 @@ pub extern "C" fn virtiofs_map_names_is_terminated(bytes: &[u8], all: &mut bool)
     ensures no_map { IsNoNameMap bytes.now → result ≡ no_map }
     ensures none { result ≡ no_map → all.new ≡ false }
 {
-    match is_terminated(all_of(bytes)) {
-        Some(terminated) => {
-            *all = terminated;
-            OK
-        }
-        None => {
-            *all = false;
-            NO_MAP
-        }
-    }
+    let terminated = is_terminated(all_of(bytes));
+    *all = terminated == Some(true);
+    if terminated.is_some() { OK } else { NO_MAP }
 }
 
 /// Asks whether a name has a fault under a first map, where another guest has the second.

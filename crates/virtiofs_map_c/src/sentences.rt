@@ -1,7 +1,6 @@
 //! The sentence by which a fault is told, for whoever prints it.
 ghost use Rattle.std.specs.Prelude.{ℕ, List};
-ghost use Rattle.virtiofs_map_c.specs.Replies.{TellsFront};
-ghost use Rattle.virtiofs_map_c.specs.Front.{Goes};
+ghost use Rattle.virtiofs_map_c.specs.Replies.{Goes, TellsFront};
 
 mod escaped;
 mod front;
@@ -11,7 +10,7 @@ use crate::codes::{NO_ROOM, OK};
 use crate::fault::Fault;
 use escaped::put_escaped;
 use front::{cut_whole, put, put_number};
-use words::{AT_FAULT, end_words, front_words, middle_words, number_at, place_words};
+use words::{AT_FAULT, number_at, place_words, words_of};
 
 #[unsafe(no_mangle)]
 pub extern "C" fn virtiofs_map_fault_text(
@@ -25,9 +24,10 @@ pub extern "C" fn virtiofs_map_fault_text(
     *len = 0;
     let text = at_fault(fault, quoted);
     say(place_words(fault), fault, text, out, len);
-    say(front_words(fault), fault, text, out, len);
-    say(middle_words(fault), fault, text, out, len);
-    say(end_words(fault), fault, text, out, len);
+    let (front, middle, end) = words_of(fault);
+    say(front, fault, text, out, len);
+    say(middle, fault, text, out, len);
+    say(end, fault, text, out, len);
     if out.len() < *len {
         cut_whole(out);
         return NO_ROOM;

@@ -1,21 +1,14 @@
 //! Texts of ids, as C hands them over: specifications, and ranges of a namespace.
-ghost use Rattle.std.specs.Prelude.{◌≡◌, ◌≢◌, ℕ, length, IsSomeAnd, IfOk, IfErr};
+ghost use Rattle.std.specs.Prelude.{◌≡◌, ◌≢◌, ℕ, IsSomeAnd, IfOk, IfErr, OnOk};
 ghost use Rattle.std.specs.Str.Parse.{error_kind};
 ghost use Rattle.virtiofs_map.specs.NamespaceText.{namespace_fault_of};
-ghost use Rattle.virtiofs_map.specs.Refusal.{OutOfMemoryOr};
 ghost use Rattle.virtiofs_map.specs.declared.cmdline.IdMap.{IdMap as Specification};
 ghost use Rattle.virtiofs_map_c.specs.Arrays.{said, HasNoTarget};
-ghost use Rattle.virtiofs_map_c.specs.Codes.{ok, refused};
-ghost use Rattle.virtiofs_map_c.specs.Faults.{no_fault, number_kind, failure_code};
-ghost use Rattle.virtiofs_map_c.specs.Makes.{TellsFault, MakesOrTells, TellsThis};
-ghost use Rattle.virtiofs_map_c.specs.Ranges.{SaysRange, RangeFault, OfRange, HasRangeFault, range_error_of, range_told, IsRangeTold};
-ghost use Rattle.virtiofs_map_c.specs.Replies.{IsQuoted};
-ghost use Rattle.virtiofs_map_c.specs.Texts.{SaysSpec, TextFault, HasTextFault, text_fault_of, number_error_of, IsNumberError, IsNumberErrorIn, texts_number_error_of, text_told, text_quoted, IsTextTold, AllSaySpecs, HasTextsFault, texts_fault_of, AreTextsTold};
+ghost use Rattle.virtiofs_map_c.specs.Faults.{ok, refused, TellsFault, MakesOrTells, TellsThis, code_of, no_fault, number_kind};
+ghost use Rattle.virtiofs_map_c.specs.Texts.{OfText, SaysSpec, TextFault, HasTextFault, IsTextAt, IsTextTold, AllSaySpecs, HasTextsFault, AreTextsTold, SaysRange, RangeFault, HasRangeFault, IsRangeTold};
 
-use crate::arrays::{Spec, spec_of, tell_of_build};
-use crate::buffer::quote;
-use crate::codes::{NO_MEMORY, NO_PART, OK, REFUSED, SPECIFICATION};
-use crate::errors::{ListError, TextError};
+use crate::arrays::{Spec, spec_of};
+use crate::codes::{NO_PART, OK, SPECIFICATION};
 use crate::fault::Fault;
 use std::alloc::Global;
 use std::num::{IntErrorKind, ParseIntError};
@@ -30,84 +23,58 @@ pub struct Range {
     pub count: u32,
 }
 
-/// The specification that a text in bytes says.
-fn read(alloc: Global, text: &[u8]) -> Result<cmdline::IdMap, TextError>
+/// The specification that a text in bytes says, which is that part; or what is told of the text.
+fn read(
+    alloc: Global,
+    text: &[u8],
+    part: u32,
+    place: usize,
+    quoted: &mut [u8],
+) -> Result<cmdline::IdMap, Fault>
     ensures read { IfOk result (SaysSpec text.now) }
-    ensures refused { IfErr result (λ e.
-        OutOfMemoryOr (text_fault_of e) (HasTextFault text.now)) }
-    ensures explained { IfErr result (λ e. IsNumberError (text_fault_of e) (number_error_of e)) }
+    ensures unquoted { OnOk result (quoted.new ≡ quoted.old) }
+    ensures refused { IfErr result (λ told.
+        TellsFault (HasTextFault text.now) (IsTextAt part place told quoted.old quoted.new)) }
 {
     let text = match str::from_utf8(text) {
         Ok(text) => text,
-        Err(_) => return Err(TextError::NotUtf8),
+        Err(_) => return Err(Fault::at(2, part, place)),
     };
     match cmdline::IdMap::from_str(alloc, text) {
         Ok(spec) => Ok(spec),
-        Err(error) => Err(TextError::Spec(error)),
+        Err(cmdline::IdMapError::InvalidPrefix(word)) => {
+            Err(Fault::at(6, part, place).quoting(&word, quoted))
+        }
+        Err(cmdline::IdMapError::InvalidLength { expected, seen }) => Err(Fault {
+            expected,
+            seen,
+            ..Fault::at(7, part, place)
+        }),
+        Err(cmdline::IdMapError::InvalidValue { value, error }) => Err(Fault {
+            number: number_of(&error),
+            ..Fault::at(8, part, place).quoting(&value, quoted)
+        }),
+        Err(cmdline::IdMapError::OutOfMemory) => Err(Fault::of_kind(1)),
     }
 }
 
 /// The specifications that texts say, in their order. Stops at the first text that cannot be read.
-pub fn read_all(alloc: Global, texts: &[&[u8]]) -> Result<Vec<cmdline::IdMap>, ListError<TextError>>
+pub fn read_all(
+    alloc: Global,
+    texts: &[&[u8]],
+    quoted: &mut [u8],
+) -> Result<Vec<cmdline::IdMap>, Fault>
     ensures read { IfOk result (λ list. AllSaySpecs texts.now list.items) }
-    ensures refused { IfErr result (λ e.
-        OutOfMemoryOr (texts_fault_of e) (HasTextsFault texts.now)) }
-    ensures explained { IfErr result (λ e.
-        IsNumberErrorIn (texts_fault_of e) (texts_number_error_of e)) }
+    ensures unquoted { OnOk result (quoted.new ≡ quoted.old) }
+    ensures refused { IfErr result (λ told.
+        TellsFault (HasTextsFault texts.now) (AreTextsTold (code_of told) told quoted.old quoted.new)) }
 {
     let mut list = Vec::new(alloc);
     for (place, text) in texts.iter().enumerate() {
-        match read(alloc, text) {
-            Ok(spec) => list.push(spec)?,
-            Err(cause) => return Err(ListError::Element { place, cause }),
-        }
+        let spec = read(alloc, text, SPECIFICATION, place, quoted)?;
+        list.push(spec)?;
     }
     Ok(list)
-}
-
-/// Tells C why no map is made of texts, and answers the code.
-pub fn tell_of_texts(error: &ListError<TextError>, fault: &mut Fault, quoted: &mut [u8]) -> u32
-    requires { IsNumberErrorIn (texts_fault_of error.now) (texts_number_error_of error.now) }
-    ensures { AreTextsTold result fault.new quoted.old quoted.new (texts_fault_of error.now) }
-{
-    match error {
-        ListError::Element { place, cause } => {
-            tell_of_text(cause, SPECIFICATION, *place, fault, quoted)
-        }
-        ListError::Build(error) => tell_of_build(error, fault),
-    }
-}
-
-/// Tells C of the text at a place, and answers the code.
-fn tell_of_text(
-    error: &TextError,
-    part: u32,
-    place: usize,
-    fault: &mut Fault,
-    quoted: &mut [u8],
-) -> u32
-    ensures code { result ≡ failure_code (text_fault_of error.now) }
-    ensures told { fault.new ≡ text_told (number_error_of error.now)
-        part place (length quoted.old) (text_fault_of error.now) }
-    ensures quoted { IsQuoted (text_quoted (text_fault_of error.now)) quoted.old quoted.new }
-{
-    match error {
-        TextError::NotUtf8 => fault.set(REFUSED, Fault::plain(2, part, place)),
-        TextError::Spec(cmdline::IdMapError::InvalidPrefix(word)) => {
-            fault.set(REFUSED, Fault::at(6, part, place, quote(word, quoted)))
-        }
-        TextError::Spec(cmdline::IdMapError::InvalidLength { expected, seen }) => {
-            fault.set(REFUSED, Fault::counted(7, part, place, *expected, *seen))
-        }
-        TextError::Spec(cmdline::IdMapError::InvalidValue { value, error }) => {
-            let number = number_of(error);
-            let told = Fault::at(8, part, place, quote(value, quoted));
-            fault.set(REFUSED, Fault { number, ..told })
-        }
-        TextError::Spec(cmdline::IdMapError::OutOfMemory) => {
-            fault.set(NO_MEMORY, Fault::of_kind(1))
-        }
-    }
 }
 
 #[unsafe(no_mangle)]
@@ -130,12 +97,12 @@ pub extern "C" fn virtiofs_map_spec_read(
     ensures faulty { (wrong : TextFault) → HasTextFault text.now wrong
         → TellsThis (IsTextTold result fault.new quoted.old quoted.new) wrong }
 {
-    match read(alloc, text) {
+    match read(alloc, text, NO_PART, 0, quoted) {
         Ok(found) => {
             *spec = spec_of(found);
-            fault.set(OK, Fault::none())
+            fault.none(OK)
         }
-        Err(error) => tell_of_text(&error, NO_PART, 0, fault, quoted),
+        Err(told) => fault.tell(told),
     }
 }
 
@@ -154,7 +121,7 @@ pub extern "C" fn virtiofs_map_range_read(text: &[u8], range: &mut Range, fault:
 {
     let text = match str::from_utf8(text) {
         Ok(text) => text,
-        Err(_) => return fault.set(REFUSED, Fault::of_kind(2)),
+        Err(_) => return fault.tell(Fault::of_kind(2)),
     };
     match idmap::UidMap::from_str(text) {
         Ok(found) => {
@@ -163,16 +130,15 @@ pub extern "C" fn virtiofs_map_range_read(text: &[u8], range: &mut Range, fault:
                 outside: found.outside_uid,
                 count: found.count,
             };
-            fault.set(OK, Fault::none())
+            fault.none(OK)
         }
-        Err(error) => fault.set(REFUSED, told_of_range(&error)),
+        Err(error) => fault.tell(told_of_range(&error)),
     }
 }
 
 /// What C is told of a text that is no range.
 fn told_of_range(error: &idmap::IdMapError) -> Fault
-    ensures { result
-        ≡ range_told (range_error_of error.now) (OfRange (namespace_fault_of error.now)) }
+    ensures { IsRangeTold result (OfText (namespace_fault_of error.now)) }
 {
     match error {
         idmap::IdMapError::InvalidDelimiter => Fault::of_kind(9),

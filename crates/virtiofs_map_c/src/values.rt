@@ -4,20 +4,17 @@ ghost use Rattle.std.specs.Prelude.{◌≡◌, ◌≢◌, ◌==◌, ◌⊎◌, �
 ghost use Rattle.virtiofs_acl.specs.ValueKinds.{HasLists, HasCapability};
 ghost use Rattle.virtiofs_map.specs.declared.cmdline.IdMap.{IdMap as Specification};
 ghost use Rattle.virtiofs_map.specs.declared.soft_idmap.entry.Direction.TheVariants.{GuestToHost, HostToGuest};
-ghost use Rattle.virtiofs_map_c.specs.Codes.{ok, no_map, acl, capability};
-ghost use Rattle.virtiofs_map_c.specs.Faults.{no_fault};
-ghost use Rattle.virtiofs_map_c.specs.Values.{ChangesAcl, ChangesCapability, WritesCapability, IsAclCode, IsCapabilityCode, IsRootCode};
+ghost use Rattle.virtiofs_map_c.specs.Faults.{ok, no_map, acl, capability, no_fault};
+ghost use Rattle.virtiofs_map_c.specs.Values.{ChangesAcl, ChangesCapability, WritesCapability, IsAclCode, IsCapabilityCode, IsRootCode, IsAclTold, IsCapabilityTold, IsAnswerTold, acl_told, capability_told, entry_kind};
 ghost use Rattle.virtiofs_map_c.specs.Wholes.{IsIdMap, IsNoIdMap};
 
-mod told;
-
 use crate::bytes::before_zero;
-use crate::codes::{ACL, CAPABILITY, NO_IDS};
+use crate::codes::{ACL, ACL_ENTRY, ACL_VALUE, CAPABILITY, CAPABILITY_VALUE, NO_IDS, NO_MAP, OK};
 use crate::fault::Fault;
 use crate::words::all_of;
-use told::{tell_acl, tell_capability, tell_no_map};
 use virtiofs_acl::{
-    EntryRoom, ValueKind, carries_ids, translate_acl, translate_capability, write_revision_3,
+    AclError, CapabilityError, EntryFault, EntryRoom, ValueKind, carries_ids, translate_acl,
+    translate_capability, write_revision_3,
 };
 use virtiofs_map::soft_idmap::{Direction, IdMapRef};
 use virtiofs_map::xattrmap::XattrName;
@@ -39,6 +36,76 @@ pub extern "C" fn virtiofs_map_carries_ids(name: &[u8]) -> u32
     }
 }
 
+/// Tells what became of a list, for which room was lent for that many entries.
+fn tell_acl(answer: Result<(), AclError>, lent: usize, fault: &mut Fault) -> u32
+    ensures { IsAnswerTold (IsAclTold lent) answer result fault.new }
+{
+    match answer {
+        Ok(()) => fault.none(OK),
+        Err(error) => fault.tell(told_of_acl(error, lent)),
+    }
+}
+
+/// Tells what became of a capability.
+fn tell_capability(answer: Result<(), CapabilityError>, fault: &mut Fault) -> u32
+    ensures { IsAnswerTold IsCapabilityTold answer result fault.new }
+{
+    match answer {
+        Ok(()) => fault.none(OK),
+        Err(error) => fault.tell(told_of_capability(error)),
+    }
+}
+
+/// What C is told of a list that does not go across.
+fn told_of_acl(error: AclError, lent: usize) -> Fault
+    ensures { result ≡ acl_told lent error }
+{
+    match error {
+        AclError::TooShort => Fault::at(19, ACL_VALUE, 0),
+        AclError::Version { version } => Fault {
+            seen: version as usize,
+            ..Fault::at(20, ACL_VALUE, 0)
+        },
+        AclError::Length => Fault::at(21, ACL_VALUE, 0),
+        AclError::Room { needed } => Fault {
+            expected: needed,
+            seen: lent,
+            ..Fault::at(22, ACL_VALUE, 0)
+        },
+        AclError::Entry { entry, fault } => Fault::at(kind_of(fault), ACL_ENTRY, entry),
+    }
+}
+
+/// The kind of what is wrong with an entry.
+fn kind_of(fault: EntryFault) -> u32
+    ensures { result ≡ entry_kind fault }
+{
+    match fault {
+        EntryFault::UnknownTag => 23,
+        EntryFault::Permission => 24,
+        EntryFault::NoId => 25,
+        EntryFault::Forbidden => 26,
+        EntryFault::Merges => 27,
+    }
+}
+
+/// What C is told of a capability that does not go across.
+fn told_of_capability(error: CapabilityError) -> Fault
+    ensures { result ≡ capability_told error }
+{
+    match error {
+        CapabilityError::TooShort => Fault::at(19, CAPABILITY_VALUE, 0),
+        CapabilityError::Revision { revision } => Fault {
+            seen: revision as usize,
+            ..Fault::at(20, CAPABILITY_VALUE, 0)
+        },
+        CapabilityError::Length => Fault::at(21, CAPABILITY_VALUE, 0),
+        CapabilityError::NoId => Fault::at(25, CAPABILITY_VALUE, 0),
+        CapabilityError::Forbidden => Fault::at(26, CAPABILITY_VALUE, 0),
+        CapabilityError::RootMoves => Fault::at(28, CAPABILITY_VALUE, 0),
+    }
+}
+
 /// Changes an access control list in place, in a direction.
 fn change_acl(
     users: &[u32],
@@ -57,10 +124,10 @@ fn change_acl(
     ensures code { IsAclCode result }
 {
     let Some(users) = IdMapRef::of(all_of(users)) else {
-        return tell_no_map(fault);
+        return fault.none(NO_MAP);
     };
     let Some(groups) = IdMapRef::of(all_of(groups)) else {
-        return tell_no_map(fault);
+        return fault.none(NO_MAP);
     };
     let lent = room.len();
     let answer = translate_acl(&users, &groups, direction, value, room);
@@ -120,10 +187,9 @@ fn change_capability(
     ensures code { IsCapabilityCode result }
 {
     let Some(users) = IdMapRef::of(all_of(users)) else {
-        return tell_no_map(fault);
+        return fault.none(NO_MAP);
     };
-    let answer = translate_capability(&users, direction, value);
-    tell_capability(answer, fault)
+    tell_capability(translate_capability(&users, direction, value), fault)
 }
 
 #[unsafe(no_mangle)]
@@ -174,10 +240,9 @@ fn write_capability(
     ensures code { IsRootCode result }
 {
     let Some(users) = IdMapRef::of(all_of(users)) else {
-        return tell_no_map(fault);
+        return fault.none(NO_MAP);
     };
-    let answer = write_revision_3(&users, direction, value, written);
-    tell_capability(answer, fault)
+    tell_capability(write_revision_3(&users, direction, value, written), fault)
 }
 
 #[unsafe(no_mangle)]

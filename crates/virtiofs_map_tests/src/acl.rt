@@ -1,7 +1,7 @@
-//! Values of attributes that hold ids: as Linux writes them, at fault, and large.
+//! Values of attributes that hold ids: as Linux writes them, and large. `tests/embedding/values.c` has
+//! values that are refused, each with its fault.
 
 mod by_linux;
-mod faults;
 mod large;
 mod told;
 
@@ -9,8 +9,8 @@ use crate::common::users_of;
 use by_linux::{CAPABILITIES, LISTS, REVISION_2};
 use std::alloc::Global;
 use std::test::Fail;
-use told::{SHIFTED, check_capability, check_list, check_written, value_of};
-use virtiofs_acl::{CapabilityError, EntryRoom, ValueKind, carries_ids};
+use told::{USERS, check_capability, check_list, check_written, value_of};
+use virtiofs_acl::{AclError, CapabilityError, EntryFault, EntryRoom, ValueKind, carries_ids};
 use virtiofs_map::id_types::{GuestGid, HostGid};
 use virtiofs_map::soft_idmap::Direction::{GuestToHost, HostToGuest};
 use virtiofs_map::soft_idmap::IdMap;
@@ -60,21 +60,21 @@ fn lists_become_what_linux_writes_for_the_other_ids(rt: HostRuntime) -> Result<(
     let alloc = rt.alloc();
     for &(guest, host) in &LISTS {
         let (guest, host) = (value_of(alloc, guest)?, value_of(alloc, host)?);
-        check_list(&rt, alloc, SHIFTED, GuestToHost, &guest, &host, None)?;
-        check_list(&rt, alloc, SHIFTED, HostToGuest, &host, &guest, None)?;
+        check_list(&rt, alloc, GuestToHost, &guest, &host)?;
+        check_list(&rt, alloc, HostToGuest, &host, &guest)?;
     }
     Ok(())
 }
 
 #[test]
 fn capabilities_become_what_linux_writes_for_the_other_root(rt: HostRuntime) -> Result<(), Fail> {
-    let (alloc, users) = (rt.alloc(), SHIFTED.users);
+    let (alloc, users) = (rt.alloc(), USERS);
     for &(guest, host) in &CAPABILITIES {
         let (guest, host) = (value_of(alloc, guest)?, value_of(alloc, host)?);
         check_capability(&rt, alloc, users, GuestToHost, &guest, &host, None)?;
         check_capability(&rt, alloc, users, HostToGuest, &host, &guest, None)?;
-        check_written(&rt, alloc, users, GuestToHost, &guest, &host, None)?;
-        check_written(&rt, alloc, users, HostToGuest, &host, &guest, None)?;
+        check_written(&rt, alloc, GuestToHost, &guest, &host)?;
+        check_written(&rt, alloc, HostToGuest, &host, &guest)?;
     }
     Ok(())
 }
@@ -93,13 +93,26 @@ fn revision_2_goes_across_where_root_stays(rt: HostRuntime) -> Result<(), Fail> 
 
 #[test]
 fn writes_the_same_in_revision_3(rt: HostRuntime) -> Result<(), Fail> {
-    let (alloc, users) = (rt.alloc(), SHIFTED.users);
+    let alloc = rt.alloc();
     for &(from, to) in &WITH_ROOT {
         let (from, to) = (value_of(alloc, from)?, value_of(alloc, to)?);
-        check_written(&rt, alloc, users, GuestToHost, &from, &to, None)?;
+        check_written(&rt, alloc, GuestToHost, &from, &to)?;
     }
     Ok(())
 }
+
+#[test]
+fn prints_faults(rt: HostRuntime) -> Result<(), Fail> {
+    let (entry, fault) = (3, EntryFault::Merges);
+    let entry = AclError::Entry { entry, fault };
+    let (list, root) = (AclError::Room { needed: 8 }, CapabilityError::RootMoves);
+    let text = format!(in rt.alloc(); "{entry}; {list}; {root}")?;
+    assert_eq!(rt; text.as_str(), SAID);
+    Ok(())
+}
+
+const SAID: &str = "entry 3: the id would become that of an earlier entry; there are 8 entries; \
+                    the revision has no id of root";
 
 #[test]
 fn sets_values_of_the_guest(rt: HostRuntime) -> Result<(), Fail> {
@@ -116,7 +129,7 @@ fn sets_values_of_the_guest(rt: HostRuntime) -> Result<(), Fail> {
 /// What becomes of a value of that name; `None` where it is refused.
 fn set_on_host(alloc: Global, name: &[u8], words: &[u32]) -> Result<Option<Vec<u8>>, Fail> {
     let name = XattrName::new(name).ok_or("a name holds a zero")?;
-    let users = users_of(alloc, SHIFTED.users).ok_or("no map")?;
+    let users = users_of(alloc, USERS).ok_or("no map")?;
     let groups: IdMap<GuestGid, HostGid> = IdMap::empty(alloc);
     let mut value = value_of(alloc, words)?;
     let mut room = [EntryRoom::new(); 8];

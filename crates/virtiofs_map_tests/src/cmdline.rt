@@ -6,14 +6,10 @@ use virtiofs_map::cmdline::{IdMap, IdMapError};
 use virtiofs_map_callers::texts::forbidding;
 
 /// Each text, and the printed form of the specification that it says.
-static PRINTED: [(&str, &str); 11] = [
-    ("map+0+1000+10", "map:0:1000:10"),
+static PRINTED: [(&str, &str); 7] = [
     ("map:+0:1000:10", "map:0:1000:10"),
+    ("map\u{0}00\u{0}1000\u{0}10", "map:0:1000:10"),
     ("FORBID-GUEST/7/3", "forbid-guest:7:3"),
-    ("map+00+1000+10", "map:0:1000:10"),
-    ("map:00000000005:1:1", "map:5:1:1"),
-    ("map\u{a0}0\u{a0}1000\u{a0}10", "map:0:1000:10"),
-    ("map\u{0}0\u{0}1000\u{0}10", "map:0:1000:10"),
     ("Guest:1:2:3", "guest:1:2:3"),
     ("host,0007,0,0", "host:7:0:0"),
     ("squash-guest:0:65534:10", "squash-guest:0:65534:10"),
@@ -21,16 +17,10 @@ static PRINTED: [(&str, &str); 11] = [
 ];
 
 /// Texts with an unknown word or another count of numbers, and what is printed of the fault behind
-/// `Invalid ID map `.
-static FAULTS: [(&str, &str); 9] = [
-    ("foo:1", "prefix foo"),
-    (":0:1:2", "prefix "),
-    ("map-0:1", "prefix map-0"),
-    ("map\u{660}:0:1:2", "prefix map\u{660}"),
+/// `Invalid ID map `. Rows of `tests/program.jsonl` have more texts at fault.
+static FAULTS: [(&str, &str); 3] = [
     ("FORB\u{130}D-GUEST:1:2", "prefix forb\u{130}d-guest"),
-    ("foo", "length (expected 1 elements, got 0 elements)"),
     ("", "length (expected 1 elements, got 0 elements)"),
-    ("map:1:2", "length (expected 3 elements, got 2 elements)"),
     (
         "forbid-guest:1:2:3",
         "length (expected 2 elements, got 3 elements)",
@@ -38,14 +28,10 @@ static FAULTS: [(&str, &str); 9] = [
 ];
 
 /// A text, and the first of its fields that is no number.
-static UNREAD: [(&str, &str); 7] = [
-    ("map:-0:1:2", "-0"),
+static UNREAD: [(&str, &str); 3] = [
     ("map:1:2:3:", ""),
-    ("foo:x", "x"),
-    ("map:4294967296:0:1", "4294967296"),
-    ("map:+:0:1", "+"),
-    ("map++0+1000+10", ""),
-    ("map:５:0:1", "５"),
+    ("map:4294967296:x:1", "4294967296"),
+    ("foo:５:x", "５"),
 ];
 
 #[test]

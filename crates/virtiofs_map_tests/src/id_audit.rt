@@ -1,21 +1,13 @@
-//! Audits of ids, with what they are to answer.
+//! Audits of ids that answer with spans or specifications. `tests/embedding/ids_audits.c` asks those
+//! that answer yes or no, and rows of `tests/audit_program.jsonl` what two guests reach.
 
 use crate::common::users_of;
-use Asked::{ApartFrom, Back, Own, Reached, Reaches, ReachesAny};
 use std::alloc::Global;
-use std::fmt::Debug;
 use std::test::Fail;
-use virtiofs_id_audit::{
-    Span, comes_back, ids_apart, ids_astray, ids_into, is_alone, mended, reached, reaches,
-    reaches_any,
-};
-use virtiofs_map::id_types::{GuestUid, HostUid};
-use virtiofs_map::soft_idmap::IdMap;
+use virtiofs_id_audit::{Span, ids_astray, ids_into, mended};
 
 /// Specifications under which the guest has 65536 ids of the host, and no other.
 const OWN: &str = "map:0:100000:65536|forbid-guest:65536:4294901759";
-
-const NEXT: &str = "map:0:165535:65536|forbid-guest:65536:4294901759";
 
 const OPEN: &str = "map:0:100000:65536";
 
@@ -23,43 +15,6 @@ const SQUASHED: &str = "squash-guest:0:1001:4294967295|host:1001:1000:1";
 
 /// A range of the host in another place, and one of no number.
 const ELSEWHERE: &str = "guest:10:50:10|host:55:15:3|map:7:3:0|squash-host:58:2:1";
-
-/// Specifications with a bar between each two, what is asked, and the answer.
-static ROWS: [(&str, Asked, &str); 11] = [
-    // 100000 stays itself on the host, and comes back as 0.
-    (
-        OPEN,
-        Back,
-        "No(Astray { guest: GuestUid(100000), host: HostUid(100000), back: GuestUid(0) })",
-    ),
-    (OWN, Back, "Yes"),
-    (
-        OPEN,
-        Own,
-        "Ok(No(Shared { guest: GuestUid(0), other: GuestUid(100000), host: HostUid(100000) }))",
-    ),
-    (OWN, Own, "Ok(Yes)"),
-    (OPEN, Reaches(0, 65536), "Some(GuestUid(65536))"),
-    (OWN, Reaches(165_536, 4294967295), "None"),
-    (OWN, ApartFrom(NEXT), "Ok(No(GuestUid(65535)))"),
-    (OWN, ApartFrom("forbid-guest:0:4294967295"), "Ok(Yes)"),
-    (OWN, Reached, "Ok([Span { first: 100000, last: 165535 }])"),
-    (
-        OWN,
-        ReachesAny(&[(165_535, 165_535), (100_007, 100_009)]),
-        "Ok(Some(GuestUid(7)))",
-    ),
-    (OWN, ReachesAny(&[(165_536, 4294967295)]), "Ok(None)"),
-];
-
-#[test]
-fn finds_the_least_id(rt: HostRuntime) -> Result<(), Fail> {
-    for &(texts, asked, wanted) in &ROWS {
-        let told = told(rt.alloc(), texts, asked)?;
-        assert_eq!(rt; told.as_str(), wanted, "{asked:?} of {texts:?}");
-    }
-    Ok(())
-}
 
 /// The first and last ids of spans.
 type Ends = &'static [(u32, u32)];
@@ -205,44 +160,4 @@ fn mended_texts(alloc: Global, texts: &str, bad: &[(u32, u32)]) -> Result<String
         write!(found, "{bar}{spec}")?;
     }
     Ok(found)
-}
-
-/// What is asked of a map.
-#[derive(Clone, Copy, Debug)]
-enum Asked {
-    Back,
-    Own,
-    /// Which id becomes one from the first to the last.
-    Reaches(u32, u32),
-    /// Which id becomes one that the map of these texts reaches too.
-    ApartFrom(&'static str),
-    Reached,
-    /// Which id becomes one of the spans.
-    ReachesAny(Ends),
-}
-
-fn told(alloc: Global, texts: &str, asked: Asked) -> Result<String, Fail> {
-    let map = users_of(alloc, texts).ok_or("no map")?;
-    match asked {
-        Back => printed(alloc, &comes_back(&map)),
-        Own => printed(alloc, &is_alone(alloc, &map)),
-        Reaches(first, last) => {
-            printed(
-                alloc,
-                &reaches(&map, HostUid::from(first), HostUid::from(last)),
-            )
-        }
-        ApartFrom(others) => apart(alloc, &map, others),
-        Reached => printed(alloc, &reached(alloc, &map)),
-        ReachesAny(ends) => printed(alloc, &reaches_any(alloc, &map, &spans_of(alloc, ends)?)),
-    }
-}
-
-fn apart(alloc: Global, map: &IdMap<GuestUid, HostUid>, others: &str) -> Result<String, Fail> {
-    let other = users_of(alloc, others).ok_or("no map")?;
-    printed(alloc, &ids_apart(alloc, map, &other))
-}
-
-fn printed<T: Debug>(alloc: Global, answer: &T) -> Result<String, Fail> {
-    Ok(format!(in alloc; "{answer:?}")?)
 }

@@ -11,28 +11,22 @@ use virtiofs_map_callers::projects::{GuestProject, HostProject, ProjectNumber};
 fn moves_ends_of_ranges(rt: HostRuntime) {
     let guest = GuestUid::from(5) + (HostUid::from(13) - HostUid::from(8));
     assert_eq!(rt; guest.into_inner(), 10);
-    let guest = GuestGid::from(8) + (HostGid::from(23) - HostGid::from(21));
-    assert_eq!(rt; guest.into_inner(), 10);
-    let host = HostUid::from(13) + (GuestUid::from(34) - GuestUid::from(21));
-    assert_eq!(rt; host.into_inner(), 26);
     let host = HostGid::from(21) + (GuestGid::from(66) - GuestGid::from(55));
     assert_eq!(rt; host.into_inner(), 32);
-}
-
-#[test]
-fn measures_distances(rt: HostRuntime) {
     assert_eq!(rt; (GuestUid::from(9) - GuestUid::from(2)).to_u32(), 7);
-    assert_eq!(rt; (HostGid::from(9) - HostGid::from(9)).to_u32(), 0);
 }
 
 #[test]
 fn prints_numbers(rt: HostRuntime) -> Result<(), Fail> {
-    check_printed(&rt, rt.alloc(), GuestUid::from(0), "0")?;
-    check_printed(&rt, rt.alloc(), HostUid::from(1000), "1000")?;
-    check_printed(&rt, rt.alloc(), GuestGid::from(65534), "65534")?;
+    check_printed(&rt, rt.alloc(), GuestUid::default(), "0")?;
     check_printed(&rt, rt.alloc(), HostGid::from(4294967295), "4294967295")?;
     let project = GuestProject::from(ProjectNumber(7));
     check_printed(&rt, rt.alloc(), project, "project 7")
+}
+
+fn check_printed<I: Id>(rt: &impl Abort, alloc: Global, id: I, text: &str) -> Result<(), Fail> {
+    assert_eq!(rt; id.to_string(alloc)?.as_str(), text);
+    Ok(())
 }
 
 #[test]
@@ -42,47 +36,23 @@ fn serves_every_pair(rt: HostRuntime) {
     check_pair::<GuestProject, HostProject>(&rt);
 }
 
-#[test]
-fn defaults_to_root(rt: HostRuntime) {
-    assert!(rt; GuestUid::default().is_root() && HostUid::default().is_root());
-    assert!(rt; GuestGid::default().is_root() && HostGid::default().is_root());
-}
-
-fn check_printed<I: Id>(rt: &impl Abort, alloc: Global, id: I, text: &str) -> Result<(), Fail> {
-    assert_eq!(rt; id.to_string(alloc)?.as_str(), text);
-    Ok(())
-}
-
 /// Each call at one pair of types.
 fn check_pair<G, H>(rt: &impl Abort)
 where
     G: GuestId<HostType = H>,
     H: HostId<GuestType = G>,
 {
-    check_number::<G, H>(rt, 0);
-    check_number::<G, H>(rt, 1000);
-    check_number::<G, H>(rt, 4294967295);
+    assert!(rt; keeps::<G>(0) && keeps::<H>(4294967295));
+    assert!(rt; is_paired::<G, H>(1000));
     assert!(rt; is_within::<G>(made(7), made(7), made(8)));
     assert!(rt; moved::<G, H>(made(7), made(7), made(4294967295)) == made(4294967295));
     assert!(rt; moved_back::<G, H>(made(4294967295), made(4294967290), made(10)) == made(15));
 }
 
-/// The calls on the ids of one number.
-fn check_number<G, H>(rt: &impl Abort, n: u32)
-where
-    G: GuestId<HostType = H>,
-    H: HostId<GuestType = G>,
-{
-    assert!(rt;
-        keeps::<G>(n) && keeps::<H>(n) && is_paired::<G, H>(n),
-        "{n}"
-    );
-}
-
 /// Whether an id has its number, and is compared by it.
 fn keeps<I: Id>(n: u32) -> bool {
     let id: I = made(n);
-    number_of(id) == n && (id < made(1000)) == (n < 1000)
+    number_of(id) == n && (id < made(1000)) == (n < 1000) && id.is_root() == (n == 0)
 }
 
 fn is_paired<G, H>(n: u32) -> bool

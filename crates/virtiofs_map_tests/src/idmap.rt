@@ -25,9 +25,8 @@ static REFUSED: [(&str, &str); 2] = [
 ];
 
 /// A text, and the first of its fields that is no number.
-static UNREAD: [(&str, &str); 4] = [
+static UNREAD: [(&str, &str); 3] = [
     ("::::", ""),
-    (":4294967296:0:1:", "4294967296"),
     (":x:0:4294967296:", "x"),
     (":4294967296::x:", "4294967296"),
 ];

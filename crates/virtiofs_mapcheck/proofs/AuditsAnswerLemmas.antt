@@ -27,12 +27,12 @@ pub SaysLeast-audit : {A : Type 0} (bad : List ℕ → Type 0) (audit : Audit A)
 SaysLeast-audit bad audit text none is = search rules
 
 -- the rules of the first text were read, and what they say beside the second was answered
-pub SaysApart : {A E : Type 0} (r : Result (Answered × String A) E) (first second : List ℕ) (rules : List MappingRule)
+pub says_apart : {A E : Type 0} (r : Result (Answered × String A) E) (first second : List ℕ) (rules : List MappingRule)
     → SaysRules (chars first) rules
     → IfOk r
     (λ p. WithRules (codes "second: ") second (λ others. SaysLeast (IsSeen rules others)) p.0 (string_bytes p.1))
     → IfOk r (λ p. AnswersApart first second p.0 (string_bytes p.1))
-SaysApart r first second rules says answered = grind arith
+says_apart r first second rules says answered = grind arith
 
 -- ---- one least name
 

@@ -1,27 +1,19 @@
 -- The words of the program and their forms.
-use Rattle.std.proofs.Common.{true, rules, ◌≡◌, ◌≢◌, ℕ, ◌+◌, ◌-◌, ◌<◌, ◌≤◌, zero, suc, List, [], ◌∷◌, ◌++◌, length}
+use Rattle.std.proofs.Common.{codes, rules, ◌≡◌, ◌≢◌, ℕ, ◌+◌, ◌-◌, ◌<◌, ◌≤◌, zero, suc, List, [], ◌∷◌, ◌++◌, length}
 use Rattle.std.proofs.Common.{take, drop, get_or, All, Option, MatchOption, Result, IfOk, refl, sym, ap, ◌∙◌, subst}
 use Rattle.std.proofs.Common.{arith, length-drop, add-one}
-use Rattle.std.proofs.lemmas.Grind.{common_steps}
 use Rattle.std.specs.Borrow.{Bor}
-use Rattle.std.proofs.lemmas.Slice.Eq.{bytes_eq-Decides}
 use Rattle.std.specs.List.{AllZip}
-use Rattle.std.specs.Str.{chars, bytes_eq}
+use Rattle.std.specs.Str.{chars}
 use Rattle.std.proofs.lemmas.List.{take_all, take_more, take-append-drop}
 use Rattle.std.proofs.lemmas.List.Elements.{All-head, All-tail}
 use Rattle.std.proofs.Math.Seq.{drop-cons}
 use Rattle.virtiofs_map.specs.Numeral.{IsNumeral}
 use Rattle.virtiofs_map.specs.declared.soft_idmap.entry.Direction.{Direction}
 use Rattle.virtiofs_map.proofs.ForCallers.{AllZip-push}
-use Rattle.virtiofs_mapcheck.specs.Words.{words_of, ask, query_front, Asks, Kind, IdsKind, first_word, IsIds, HasForm}
-use Rattle.virtiofs_mapcheck.specs.Words.{HasNoForm}
-use Rattle.virtiofs_mapcheck.specs.WordsParts.{IsCutAtAsk, form_of, HasNoBody, ReadsBody}
+use Rattle.virtiofs_mapcheck.specs.Words.{words_of, ask, query_front, Asks, IsIds, HasNoForm}
+use Rattle.virtiofs_mapcheck.specs.WordsParts.{IsCutAtAsk}
 use Rattle.virtiofs_mapcheck.specs.declared.words.Query.{Query}
-use Rattle.virtiofs_mapcheck.specs.declared.words.Words.{Words}
-
--- no two kinds have one first word
-pub first_word-one : (kind other : Kind) → first_word kind ≡ first_word other → kind ≡ other
-first_word-one kind other same = search rules
 
 -- a query begins with the word of one direction
 query_front-one : (numeral other : List ℕ) (direction other_way : Direction)
@@ -68,6 +60,9 @@ AllZip-more words i d queries query below so_far asks =
     rw (take_more words i d below, words_of-append (take i words) (get_or words i d ∷ []))
     (AllZip-push Asks (words_of (take i words)) queries (get_or words i d).now query so_far asks)
 
+-- words that each were read
+pub ruleset all_queries = (AllZip-more, take_all)
+
 -- a word that is no query, among words that each are one
 pub AllZip-unread : (words : List (Bor (List ℕ))) (i : ℕ) (d : Bor (List ℕ)) (queries : List Query) → i < length words
     → ((query : Query) → Asks (get_or words i d).now query → ⊥) → AllZip Asks (words_of words) queries → ⊥
@@ -97,39 +92,16 @@ has_ask (w ∷ front) back all = has_ask front back (All-tail (λ word. word ≢
 
 -- words after `ids` that hold no `ask`
 pub unasked : (others specs : List (List ℕ)) (queries : List Query) → All (λ word. word ≢ ask) others
-    → IsIds others specs queries → ⊥
+    → IsIds (codes "ids" ∷ others) specs queries → ⊥
 unasked others specs queries none form = search (rules, has_ask)
 
 -- words after `ids`, where those after the first `ask` are not queries
 pub no_queries : (others front back specs : List (List ℕ)) (queries : List Query) → IsCutAtAsk others front back
-    → (0 < length back → AllZip Asks back queries → ⊥) → IsIds others specs queries → ⊥
+    → (0 < length back → AllZip Asks back queries → ⊥) → IsIds (codes "ids" ∷ others) specs queries → ⊥
 no_queries others front back specs queries cut none form = search (rules, same_cut)
-
--- ---- forms
-
--- what was read of the words after the first is the form of all the words
-pub form_read : {A : Type 0} (words others : List (Bor (List ℕ))) (word : Bor (List ℕ)) (kind : Kind)
-    (o : Option (Words A)) → words ≡ word ∷ others → true ≡ bytes_eq word.now (first_word kind)
-    → ReadsBody kind (words_of others) o
-    → MatchOption o (HasNoForm (words_of words)) (λ read. HasForm (words_of words) (form_of read))
-form_read words others word kind o whole same reads =
-    let is : words_of words ≡ first_word kind ∷ words_of others = ap words_of whole
-    ∙ ap (λ (n : List ℕ). n ∷ words_of others) ((bytes_eq-Decides word.now (first_word kind)).0 (sym same)) in
-    search rules
-
-pub form_read_ok : {A E : Type 0} (words others : List (Bor (List ℕ))) (word : Bor (List ℕ)) (kind : Kind)
-    (r : Result (Option (Words A)) E) → words ≡ word ∷ others → true ≡ bytes_eq word.now (first_word kind)
-    → IfOk r (ReadsBody kind (words_of others))
-    → IfOk r (λ o. MatchOption o (HasNoForm (words_of words)) (λ read. HasForm (words_of words) (form_of read)))
-form_read_ok words others word kind r whole same reads = search (rules, form_read)
 
 -- words after `ids` that are those of no such form
 pub no_ids : (others : List (List ℕ))
-    → ((specs : List (List ℕ)) (queries : List Query) → IsIds others specs queries → ⊥) → HasNoBody IdsKind others
-no_ids others none form same body = search rules
-
--- two words and no other
-pub two_words : (words others rest : List (Bor (List ℕ))) (word other : Bor (List ℕ)) (same : List ℕ)
-    → words ≡ word ∷ others → others ≡ other ∷ rest → length rest ≡ 0 → same ≡ other.now
-    → words_of words ≡ word.now ∷ same ∷ []
-two_words words others rest word other same first second none is = grind (arith, common_steps)
+    → ((specs : List (List ℕ)) (queries : List Query) → IsIds (codes "ids" ∷ others) specs queries → ⊥)
+    → HasNoForm (codes "ids" ∷ others)
+no_ids others none form has = search rules

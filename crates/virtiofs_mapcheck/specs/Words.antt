@@ -27,26 +27,6 @@ pub record Asks (word : List ℕ) (query : Query) : Type 0 where
   pub whole : word ≡ query_front query.direction ++ numeral
   pub number : IsNumeral (chars numeral) query.number
 
--- the forms
-pub data Kind : Type 0 where
-  IdsKind : Kind
-  NamespaceKind : Kind
-  ClientKind : Kind
-  ServerKind : Kind
-  TerminatedKind : Kind
-  AuditKind : Kind
-  ApartKind : Kind
-
--- the first word of a form
-abbrev pub first_word : Kind → List ℕ
-first_word IdsKind = codes "ids"
-first_word NamespaceKind = codes "ns"
-first_word ClientKind = codes "client"
-first_word ServerKind = codes "server"
-first_word TerminatedKind = codes "terminated"
-first_word AuditKind = codes "audit"
-first_word ApartKind = codes "apart"
-
 -- what the words ask for: ids under specifications, the meaning of a namespace text, what becomes of a guest's name or
 -- of a host's names under rules, or what holds of all names under rules or under two texts of them
 pub data Form : Type 0 where
@@ -58,37 +38,23 @@ pub data Form : Type 0 where
   Audit : List ℕ → Form
   Apart : List ℕ → List ℕ → Form
 
-abbrev pub kind_of : Form → Kind
-kind_of (Ids specs queries) = IdsKind
-kind_of (Namespace text) = NamespaceKind
-kind_of (Client rules name) = ClientKind
-kind_of (Server rules names) = ServerKind
-kind_of (Terminated rules) = TerminatedKind
-kind_of (Audit rules) = AuditKind
-kind_of (Apart first second) = ApartKind
-
--- the words after `ids` are specifications, the first `ask`, and then one query or more
+-- the words are `ids`, specifications, the first `ask`, and then one query or more
 pub record IsIds (words specs : List (List ℕ)) (queries : List Query) : Type 0 where
   pub asked : List (List ℕ)
-  pub whole : words ≡ specs ++ ask ∷ asked
+  pub whole : words ≡ codes "ids" ∷ specs ++ ask ∷ asked
   pub first : All (λ word. word ≢ ask) specs
   pub some : 0 < length asked
   pub read : AllZip Asks asked queries
 
--- the words after the first are those of the form
-abbrev pub HasBody : List (List ℕ) → Form → Type 0
-HasBody words (Ids specs queries) = IsIds words specs queries
-HasBody words (Namespace text) = words ≡ text ∷ []
-HasBody words (Client rules name) = (words ≡ rules ∷ name ∷ []) × All (λ byte. byte ≢ 0) name
-HasBody words (Server rules names) = words ≡ rules ∷ names
-HasBody words (Terminated rules) = words ≡ rules ∷ []
-HasBody words (Audit rules) = words ≡ rules ∷ []
-HasBody words (Apart first second) = words ≡ first ∷ second ∷ []
-
--- the words have that form
+-- the words have that form: a first word that tells which, and its own
 abbrev pub HasForm : List (List ℕ) → Form → Type 0
-HasForm words form =
-    (others : List (List ℕ)) × (words ≡ first_word (kind_of form) ∷ others) × HasBody others form
+HasForm words (Ids specs queries) = IsIds words specs queries
+HasForm words (Namespace text) = words ≡ codes "ns" ∷ text ∷ []
+HasForm words (Client rules name) = (words ≡ codes "client" ∷ rules ∷ name ∷ []) × All (λ byte. byte ≢ 0) name
+HasForm words (Server rules names) = words ≡ codes "server" ∷ rules ∷ names
+HasForm words (Terminated rules) = words ≡ codes "terminated" ∷ rules ∷ []
+HasForm words (Audit rules) = words ≡ codes "audit" ∷ rules ∷ []
+HasForm words (Apart first second) = words ≡ codes "apart" ∷ first ∷ second ∷ []
 
 -- the words have no form
 abbrev pub HasNoForm : List (List ℕ) → Type 0

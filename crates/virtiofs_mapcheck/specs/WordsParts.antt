@@ -1,7 +1,6 @@
 -- What the parts of the reader of words answer. Only private functions cite these words.
-use Rattle.std.specs.Prelude.{◌≡◌, ◌≢◌, ℕ, List, ◌∷◌, ◌++◌, All, Option, MatchOption}
-use Rattle.virtiofs_mapcheck.specs.Words.{words_of, ask, Kind, Form, Ids, Namespace, Client, Server, Terminated, Audit}
-use Rattle.virtiofs_mapcheck.specs.Words.{Apart, kind_of, HasBody}
+use Rattle.std.specs.Prelude.{◌≡◌, ◌≢◌, ℕ, List, ◌∷◌, ◌++◌, All}
+use Rattle.virtiofs_mapcheck.specs.Words.{words_of, ask, Form, Ids, Namespace, Client, Server, Terminated, Audit, Apart}
 use Rattle.virtiofs_mapcheck.specs.declared.words.Words.{Words}
 use Rattle.virtiofs_mapcheck.specs.declared.words.Words.TheVariants as read
 
@@ -19,13 +18,3 @@ form_of (read.Server rules names) = Server rules.now (words_of names.now)
 form_of (read.Terminated rules) = Terminated rules.now
 form_of (read.Audit rules) = Audit rules.now
 form_of (read.Apart first second) = Apart first.now second.now
-
--- no form of that kind has these words after its first
-abbrev pub HasNoBody : Kind → List (List ℕ) → Type 0
-HasNoBody kind words = (form : Form) → kind_of form ≡ kind → HasBody words form → ⊥
-
--- what was read of the words after the first, where they are those of a form of that kind
-abbrev pub ReadsBody : {A : Type 0} → Kind → List (List ℕ) → Option (Words A) → Type 0
-ReadsBody kind words o = MatchOption o
-    (HasNoBody kind words)
-    (λ read. (kind_of (form_of read) ≡ kind) × HasBody words (form_of read))

@@ -78,6 +78,7 @@ pub(crate) fn answer_client<A: Allocator + Copy>(
 }
 
 /// The list of names: a zero after each.
+#[tactic(auto, using(std::proofs::lemmas::List::take_all))]
 fn joined<A: Allocator>(alloc: A, names: &[&str]) -> Result<Vec<u8, A>, AllocError>
     ensures { IfOk result (λ list. list.items ≡ list_of (words_of names.now)) }
 {

@@ -113,6 +113,7 @@ fn answer_hidden<A: Allocator + Copy>(
 
 /// Whether what passes under the rules of the first text is hidden under those of the second, or
 /// how the first text that is at fault is refused.
+#[tactic(auto, using(crate::proofs::AuditsAnswerLemmas::says_apart))]
 pub(crate) fn answer_apart<A: Allocator + Copy>(
     alloc: A,
     first: &str,

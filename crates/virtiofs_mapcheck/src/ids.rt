@@ -38,6 +38,7 @@ fn push_line<A: Allocator>(
 }
 
 /// The lines of queries.
+#[tactic(auto, using(std::proofs::lemmas::List::take_all))]
 pub(crate) fn lines_of<A: Allocator>(
     alloc: A,
     map: &IdMap<GuestUid, HostUid, A>,

@@ -1,8 +1,8 @@
 //! The forms of the program's words.
-ghost use Rattle.std.specs.Prelude.{◌≡◌, ◌≢◌, ℕ, List, [], ◌∷◌, All, IfOk, MatchOption};
+ghost use Rattle.std.specs.Prelude.{◌≡◌, ◌≢◌, List, ◌∷◌, All, IfOk, MatchOption, codes};
 ghost use Rattle.std.specs.List.{AllZip};
-ghost use Rattle.virtiofs_mapcheck.specs.Words.{words_of, ask, Asks, IdsKind, NamespaceKind, ClientKind, ServerKind, TerminatedKind, AuditKind, ApartKind, HasForm, HasNoForm};
-ghost use Rattle.virtiofs_mapcheck.specs.WordsParts.{IsCutAtAsk, form_of, ReadsBody};
+ghost use Rattle.virtiofs_mapcheck.specs.Words.{words_of, ask, Asks, HasForm, HasNoForm};
+ghost use Rattle.virtiofs_mapcheck.specs.WordsParts.{IsCutAtAsk, form_of};
 
 use std::alloc::{AllocError, Allocator};
 use virtiofs_map::soft_idmap::Direction;
@@ -79,6 +79,7 @@ fn read_query(word: &str) -> Option<Query>
 }
 
 /// Reads the queries of words, each of which has to be one.
+#[tactic(auto, using(crate::proofs::WordsLemmas::all_queries))]
 fn read_queries<A: Allocator>(alloc: A, words: &[&str]) -> Result<Option<Vec<Query, A>>, AllocError>
     ensures { IfOk result (λ o. MatchOption o
         ((queries : List _) → AllZip Asks (words_of words.now) queries → ⊥)
@@ -113,7 +114,9 @@ fn read_ids<'a, A: Allocator>(
     alloc: A,
     words: &'a [&'a str],
 ) -> Result<Option<Words<'a, A>>, AllocError>
-    ensures { IfOk result (ReadsBody IdsKind (words_of words.now)) }
+    ensures { IfOk result (λ o. MatchOption o
+        (HasNoForm (codes "ids" ∷ words_of words.now))
+        (λ read. HasForm (codes "ids" ∷ words_of words.now) (form_of read))) }
 {
     let Some((specs, asked)) = cut_at_ask(words) else {
         return Ok(None);
@@ -127,76 +130,6 @@ fn read_ids<'a, A: Allocator>(
     Ok(Some(Words::Ids { specs, queries }))
 }
 
-/// The only word, where there is one and no other.
-fn only_word<'a>(words: &'a [&'a str]) -> Option<&'a str>
-    ensures { MatchOption result
-        ((word : List ℕ) → words_of words.now ≢ word ∷ [])
-        (λ word. words_of words.now ≡ word.now ∷ []) }
-{
-    let (word, others) = words.split_first()?;
-    if !others.is_empty() {
-        return None;
-    }
-    Some(word)
-}
-
-/// Reads the words after `ns`.
-fn read_namespace<'a, A: Allocator>(words: &'a [&'a str]) -> Option<Words<'a, A>>
-    ensures { ReadsBody NamespaceKind (words_of words.now) result }
-{
-    let text = only_word(words)?;
-    Some(Words::Namespace { text })
-}
-
-/// Reads the words after `client`.
-fn read_client<'a, A: Allocator>(words: &'a [&'a str]) -> Option<Words<'a, A>>
-    ensures { ReadsBody ClientKind (words_of words.now) result }
-{
-    let (rules, others) = words.split_first()?;
-    let (name, others) = others.split_first()?;
-    if !others.is_empty() {
-        return None;
-    }
-    let name = XattrName::new(name.as_bytes())?;
-    Some(Words::Client { rules, name })
-}
-
-/// Reads the words after `server`.
-fn read_server<'a, A: Allocator>(words: &'a [&'a str]) -> Option<Words<'a, A>>
-    ensures { ReadsBody ServerKind (words_of words.now) result }
-{
-    let (rules, names) = words.split_first()?;
-    Some(Words::Server { rules, names })
-}
-
-/// Reads the words after `terminated`.
-fn read_terminated<'a, A: Allocator>(words: &'a [&'a str]) -> Option<Words<'a, A>>
-    ensures { ReadsBody TerminatedKind (words_of words.now) result }
-{
-    let rules = only_word(words)?;
-    Some(Words::Terminated { rules })
-}
-
-/// Reads the words after `audit`.
-fn read_audit<'a, A: Allocator>(words: &'a [&'a str]) -> Option<Words<'a, A>>
-    ensures { ReadsBody AuditKind (words_of words.now) result }
-{
-    let rules = only_word(words)?;
-    Some(Words::Audit { rules })
-}
-
-/// Reads the words after `apart`.
-fn read_apart<'a, A: Allocator>(words: &'a [&'a str]) -> Option<Words<'a, A>>
-    ensures { ReadsBody ApartKind (words_of words.now) result }
-{
-    let (first, others) = words.split_first()?;
-    let (second, others) = others.split_first()?;
-    if !others.is_empty() {
-        return None;
-    }
-    Some(Words::Apart { first, second })
-}
-
 /// Reads the words' form, where they have one.
 pub(crate) fn read_words<'a, A: Allocator>(
     alloc: A,
@@ -206,29 +139,17 @@ pub(crate) fn read_words<'a, A: Allocator>(
         (HasNoForm (words_of words.now))
         (λ read. HasForm (words_of words.now) (form_of read))) }
 {
-    let Some((name, others)) = words.split_first() else {
-        return Ok(None);
-    };
-    if *name == "ids" {
-        return read_ids(alloc, others);
+    match words {
+        ["ids", others @ ..] => read_ids(alloc, others),
+        ["ns", text] => Ok(Some(Words::Namespace { text })),
+        ["client", rules, name] => match XattrName::new(name.as_bytes()) {
+            Some(name) => Ok(Some(Words::Client { rules, name })),
+            None => Ok(None),
+        },
+        ["server", rules, names @ ..] => Ok(Some(Words::Server { rules, names })),
+        ["terminated", rules] => Ok(Some(Words::Terminated { rules })),
+        ["audit", rules] => Ok(Some(Words::Audit { rules })),
+        ["apart", first, second] => Ok(Some(Words::Apart { first, second })),
+        _ => Ok(None),
     }
-    if *name == "ns" {
-        return Ok(read_namespace(others));
-    }
-    if *name == "client" {
-        return Ok(read_client(others));
-    }
-    if *name == "server" {
-        return Ok(read_server(others));
-    }
-    if *name == "terminated" {
-        return Ok(read_terminated(others));
-    }
-    if *name == "audit" {
-        return Ok(read_audit(others));
-    }
-    if *name == "apart" {
-        return Ok(read_apart(others));
-    }
-    Ok(None)
 }

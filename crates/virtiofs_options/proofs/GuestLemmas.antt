@@ -21,9 +21,9 @@ Adds-then : {A : Type 0} (a b c : Guest A) (xs ys : List Part) → Adds a b xs �
 Adds-then a b c xs ys first second =
     grind (arith, append_assoc, filter_map-append, filter_map, last_or-append, list_any-append)
 
-pub Adds-more : {A : Type 0} (a b c : Guest A) (parts : List Part) (i : ℕ) (d : Part) → i < length parts
+pub adds_more : {A : Type 0} (a b c : Guest A) (parts : List Part) (i : ℕ) (d : Part) → i < length parts
     → Adds a b (take i parts) → Adds b c (get_or parts i d ∷ []) → Adds a c (take (i + 1) parts)
-Adds-more a b c parts i d below first second =
+adds_more a b c parts i d below first second =
     subst (Adds a c) (sym (take_more parts i d below)) (Adds-then a b c (take i parts) (get_or parts i d ∷ []) first second)
 
 -- the texts in the values of `-o`, of parts one after another
@@ -37,11 +37,11 @@ older_options-more parts i d below =
     (settings sets.Older (take i parts)) (settings sets.Older (get_or parts i d ∷ []))
 
 -- the parts of `-o` in a part more
-pub AreOlder-more : (options : Options) (parts : List Part) (i : ℕ) (d : Part) (a b : List Part) → i < length parts
+pub are_older_more : (options : Options) (parts : List Part) (i : ℕ) (d : Part) (a b : List Part) → i < length parts
     → AreOlder options (take i parts) a
     → map plain_part b ≡ map plain_part a ++ map (older_part options) (older_options (get_or parts i d ∷ []))
     → AreOlder options (take (i + 1) parts) b
-AreOlder-more options parts i d a b below so_far added =
+are_older_more options parts i d a b below so_far added =
     added ∙ ap (λ xs. xs ++ map (older_part options) (older_options (get_or parts i d ∷ []))) so_far
     ∙ sym (map-append (older_part options) (older_options (take i parts)) _)
     ∙ ap (map (older_part options)) (sym (older_options-more parts i d below))

@@ -1,10 +1,8 @@
 mod ClusterLemmas
 mod GuestLemmas
 mod GuestsLemmas
-mod LineLemmas
 mod PartLemmas
 mod ResultLemmas
 mod SearchLemmas
-mod StripLemmas
+mod TextLemmas
 mod UnknownLemmas
-mod WordLemmas

@@ -17,15 +17,15 @@ PartsThen-more options words (first ∷ parts) left part rest so_far begins =
     (after, here, PartsThen-more options (read_after first after) parts left part rest there begins)
 
 -- the same, where the words left are read by a loop
-pub PartsThen-next : (options : Options) (words : List Word) (parts : List Part)
+pub parts_then_next : (options : Options) (words : List Word) (parts : List Part)
     (left : List Word) (part : Part) (count : ℕ) (d : Word) (next : List Word) → PartsThen options words parts left
     → false ≡ (length left == 0)
     → Begins options (get_or left 0 d ∷ take (length left - 1) (drop 1 left)) part
     (drop count (get_or left 0 d ∷ take (length left - 1) (drop 1 left)))
     → next ≡ read_after part (take (length left - count) (drop count left))
     → PartsThen options words (parts ++ part ∷ []) next
-PartsThen-next options words parts [] part count d next so_far some begins is = grind arith
-PartsThen-next options words parts (word ∷ after) part count d next so_far some begins is =
+parts_then_next options words parts [] part count d next so_far some begins is = grind arith
+parts_then_next options words parts (word ∷ after) part count d next so_far some begins is =
     let tail = λ (it : List Word). Begins options (word ∷ it) part (drop count (word ∷ it)) in
     let here : Begins options (word ∷ after) part (drop count (word ∷ after)) =
     subst tail (take_rest (word ∷ after) 1) begins in

@@ -6,10 +6,9 @@ use Rattle.std.proofs.lemmas.List.Elements.{filter-append}
 use Rattle.std.proofs.lemmas.List.Folds.{find-append}
 use Rattle.std.specs.Option.{option_or}
 use Rattle.virtiofs_options.proofs.SearchLemmas.{any-find}
-use Rattle.virtiofs_options.specs.Allowed.{allows}
 use Rattle.virtiofs_options.specs.GuestOptions.{is_set, split_at_commas}
 use Rattle.virtiofs_options.specs.Guests.{Told}
-use Rattle.virtiofs_options.specs.Unknown.{first_bad, unknown_words, is_bad, is_faulty, FaultsIn, HasTextFault}
+use Rattle.virtiofs_options.specs.Unknown.{allows, first_bad, unknown_words, is_bad, is_faulty, FaultsIn, HasTextFault}
 use Rattle.virtiofs_options.specs.Whole.{follows}
 use Rattle.virtiofs_options.specs.declared.command.Part.{Part}
 use Rattle.virtiofs_options.specs.declared.command.Part.TheVariants.{Valued}
@@ -39,11 +38,11 @@ first-more options xs x o none found =
         ∙ ap (λ (it : Option (List ℕ)). option_or it (first_bad options (x.now ∷ []))) none
 
 -- what is wrong with an option that has its value, and parts of `-o` in it
-pub older-faulty : (options : Options) (row : Known) (value : Bor (List ℕ)) (o : Option Fault)
+pub older_faulty : (options : Options) (row : Known) (value : Bor (List ℕ)) (o : Option Fault)
     → follows options value.now ≡ false → allows row.values value.now ≡ true → is_set sets.Older row.sets ≡ true
     → HasTextFault options (first_bad options (split_at_commas value.now)) o
     → FaultsIn options (Valued row value) o
-older-faulty options row value x3 no_line allowed older none = grind (arith, any-find, is_some)
+older_faulty options row value x3 no_line allowed older none = grind (arith, any-find, is_some)
 
 -- what is wrong with a part, where it is known what is
 pub faults-some : (options : Options) (part : Part) (o : Option Fault) (fault : Fault) → FaultsIn options part o

@@ -1,9 +1,9 @@
 -- Short options that are joined in one word.
-use Rattle.std.specs.Prelude.{ℕ, ◌==◌, List, [], ◌∷◌, Bool, true, false, not, ◌&&◌, Option, Some, None, option_map, unwrap_or, flat_map, find, drop, length, nat_eq, bytes_eq, codes, if◌then◌else◌}
+use Rattle.std.specs.Prelude.{ℕ, ◌==◌, List, [], ◌∷◌, Bool, true, false, not, ◌&&◌, Option, Some, None, option_map, unwrap_or, flat_map, drop, length, nat_eq, codes, if◌then◌else◌}
 use Rattle.std.specs.Borrow.{Bor}
 use Rattle.std.specs.List.{starts_with}
 use Rattle.std.specs.Option.{option_and_then}
-use Rattle.virtiofs_options.specs.Parts.{is_last, is_option}
+use Rattle.virtiofs_options.specs.Parts.{is_last, is_option, known_of}
 use Rattle.virtiofs_options.specs.declared.options.Known.{Known}
 use Rattle.virtiofs_options.specs.declared.options.Options.{Options}
 use Rattle.virtiofs_options.specs.declared.options.Takes.{Takes}
@@ -20,7 +20,7 @@ plain word = (word.text.now, word.is_joined)
 
 -- the option that a letter names
 abbrev pub short_of : Options → ℕ → Option Known
-short_of options letter = find (λ it. bytes_eq it.name.now (45 ∷ letter ∷ [])) options.known.now
+short_of options letter = known_of options (45 ∷ letter ∷ [])
 
 -- what follows the letter of an option
 abbrev pub after_letter : List ℕ → List ℕ → Option (List ℕ)

@@ -1,4 +1,3 @@
-pub mod Allowed
 pub mod AskedOptions
 pub mod Clusters
 pub mod GuestOptions

@@ -1,7 +1,8 @@
 -- What the command line of a process that runs says.
-use Rattle.std.specs.Prelude.{◌≡◌, ◌==◌, ◌-◌, ℕ, List, Option, map, position, take, slice_get, length, codes}
+use Rattle.std.specs.Prelude.{◌≡◌, ◌==◌, ◌-◌, ℕ, List, Option, map, slice_get, length, codes}
 use Rattle.std.specs.Borrow.{Bor}
-use Rattle.std.specs.Option.{option_map_or, option_or}
+use Rattle.std.specs.List.{before_first}
+use Rattle.std.specs.Option.{option_or}
 use Rattle.virtiofs_options.specs.Clusters.{plain, split_words}
 use Rattle.virtiofs_options.specs.GuestOptions.{AreOlder, values_of}
 use Rattle.virtiofs_options.specs.Guests.{AreSplitParts}
@@ -12,13 +13,9 @@ use Rattle.virtiofs_options.specs.declared.fault.Fault.{Fault}
 use Rattle.virtiofs_options.specs.declared.options.Options.{Options}
 use Rattle.virtiofs_options.specs.declared.command.Word.{Word}
 
--- where the first zero byte stands
-abbrev pub first_zero : List ℕ → Option ℕ
-first_zero text = position (λ byte. byte == 0) text
-
 -- the first word of a command line, which a zero byte ends
 abbrev pub first_word : List ℕ → List ℕ
-first_word text = option_map_or (λ end. take end text) (first_zero text) text
+first_word text = before_first (λ byte. byte == 0) text
 
 -- the last of some values
 abbrev pub last_of : List (Bor (List ℕ)) → Option (Bor (List ℕ))

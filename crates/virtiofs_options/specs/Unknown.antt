@@ -1,14 +1,16 @@
 -- What the parts of a command line have that is not known, and what of it is wrong.
-use Rattle.std.specs.Prelude.{◌≡◌, ◌⊎◌, ℕ, List, [], ◌∷◌, Bool, true, false, not, ◌||◌, ◌&&◌, Option, Some, None, MatchOption, map, flat_map, find, is_some, length, take, nat_le, nat_eq, bytes_eq, chars, encode_utf8_all, if◌then◌else◌}
+use Rattle.std.specs.Prelude.{◌≡◌, ◌⊎◌, ◌==◌, ℕ, List, [], ◌∷◌, Bool, true, false, not, ◌||◌, ◌&&◌, Option, Some, None, MatchOption, map, flat_map, find, is_some, length, take, nat_le, nat_eq, bytes_eq, chars, codes, unwrap_or, encode_utf8_all, if◌then◌else◌}
 use Rattle.std.specs.Borrow.{Bor}
-use Rattle.std.specs.List.{list_any, filter}
+use Rattle.std.specs.Char.{is_ascii_digit}
+use Rattle.std.specs.List.{list_all, list_any, filter}
 use Rattle.std.specs.Option.{option_map_or, option_or}
+use Rattle.std.specs.Str.{str_eq_ignore_ascii_case}
 use Rattle.strsim.specs.Edits.{levenshtein_row}
-use Rattle.virtiofs_options.specs.Allowed.{allows}
+use Rattle.virtiofs_options.specs.Clusters.{stripped}
 use Rattle.virtiofs_options.specs.GuestOptions.{after, is_set, split_at_commas, older_of}
 use Rattle.virtiofs_options.specs.Lines.{concerns, is_daemon}
 use Rattle.virtiofs_options.specs.Parts.{key_of, sets_by}
-use Rattle.virtiofs_options.specs.Whole.{is_line, follows}
+use Rattle.virtiofs_options.specs.Whole.{is_line, is_name, follows}
 use Rattle.virtiofs_options.specs.declared.command.Part.{Part}
 use Rattle.virtiofs_options.specs.declared.command.Part.TheVariants.{Plain, Flag, Valued, Stray}
 use Rattle.virtiofs_options.specs.declared.fault.Fault.{Fault}
@@ -17,6 +19,8 @@ use Rattle.virtiofs_options.specs.declared.options.Known.{Known}
 use Rattle.virtiofs_options.specs.declared.options.Options.{Options}
 use Rattle.virtiofs_options.specs.declared.options.Sets.{Sets}
 use Rattle.virtiofs_options.specs.declared.options.Sets.TheVariants as sets
+use Rattle.virtiofs_options.specs.declared.options.Values.{Values}
+use Rattle.virtiofs_options.specs.declared.options.Values.TheVariants as values
 use Rattle.virtiofs_options.specs.declared.strays.Place.{Place}
 use Rattle.virtiofs_options.specs.declared.strays.Place.TheVariants as place
 use Rattle.virtiofs_options.specs.declared.unknown.UnknownWord.{UnknownWord}
@@ -39,7 +43,24 @@ is_near_one text known = list_any (misses text) known
 
 -- the name is that of an option of the program's own
 abbrev pub is_own : Options → List ℕ → Bool
-is_own options name = list_any (λ it. bytes_eq it.name.now name) options.own.now
+is_own options name = is_name options.own.now name
+
+-- what follows a `+`, if the text begins with it
+abbrev pub unsigned : List ℕ → List ℕ
+unsigned value = unwrap_or (stripped (codes "+") value) value
+
+-- digits, after a `+` or none
+abbrev pub are_digits : List ℕ → Bool
+are_digits value = not (length (unsigned value) == 0) && list_all is_ascii_digit (unsigned value)
+
+-- the daemon takes the value
+abbrev pub allows : Values → List ℕ → Bool
+allows values.Any value = true
+allows values.NoEquals value = not (list_any (λ byte. byte == 61) value)
+allows (values.Of texts) value = list_any (λ it. bytes_eq it.now value) texts.now
+allows (values.AnyCase texts) value = list_any (λ it. str_eq_ignore_ascii_case it.now value) texts.now
+allows values.Digits value = are_digits value
+allows values.Tag value = not (length value == 0) && nat_le (length value) 36
 
 -- a part of `-o` is wrong: it is not known, and a near miss of one for names, or the daemon refuses its value
 abbrev pub is_bad : Options → List ℕ → Bool

@@ -4,23 +4,24 @@ use Rattle.std.specs.List.{list_any, slice_split}
 use Rattle.std.specs.Option.{option_map_or}
 use Rattle.virtiofs_options.specs.Lines.{is_daemon}
 use Rattle.virtiofs_options.specs.Parts.{key_of}
+use Rattle.virtiofs_options.specs.declared.options.Known.{Known}
 use Rattle.virtiofs_options.specs.declared.options.Options.{Options}
 
 -- a blank, a tab or an end of a line
 abbrev pub is_blank : ℕ → Bool
 is_blank byte = (byte == 32) || (byte == 9) || (byte == 10) || (byte == 13)
 
+-- the name of one of these options
+abbrev pub is_name : List Known → List ℕ → Bool
+is_name known text = list_any (λ it. bytes_eq it.name.now text) known
+
 -- an option that is known, alone or with `=` and a value
 abbrev pub is_known : Options → List ℕ → Bool
-is_known options text = list_any (λ it. bytes_eq it.name.now (key_of text)) options.known.now
-
--- the name of an option that is known
-abbrev pub is_name : Options → List ℕ → Bool
-is_name options text = list_any (λ it. bytes_eq it.name.now text) options.known.now
+is_known options text = is_name options.known.now (key_of text)
 
 -- the daemon's word, or an option without `=`
 abbrev pub begins_line : Options → List ℕ → Bool
-begins_line options text = is_daemon text || is_name options text
+begins_line options text = is_daemon text || is_name options.known.now text
 
 -- one of the words in the text is an option that is known
 abbrev pub holds_option : Options → List ℕ → Bool

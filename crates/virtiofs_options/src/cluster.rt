@@ -2,7 +2,7 @@
 ghost use Rattle.std.specs.Prelude.{◌≡◌, ◌++◌, OnOk, IfOk, map, option_map};
 ghost use Rattle.virtiofs_options.specs.Clusters.{after_letter, cluster, is_bare, is_cluster, joined_in, plain, short_of, split_words, stripped, value_words, words_in};
 
-use crate::command::{Word, is_last, is_option};
+use crate::command::{Word, is_last, is_option, known_of};
 use crate::options::{Known, Options, Takes};
 use std::alloc::{AllocError, Global};
 
@@ -10,15 +10,11 @@ use std::alloc::{AllocError, Global};
 fn short_of(options: Options, letter: u8) -> Option<Known>
     ensures { result ≡ short_of options letter }
 {
-    let name = [b'-', letter];
-    options
-        .known
-        .iter()
-        .find(|it| it.name.as_bytes() == name.as_slice())
-        .copied()
+    known_of(options, &[b'-', letter])
 }
 
 /// What a text has after another that it begins with.
+#[tactic(auto, using(crate::proofs::TextLemmas::strips))]
 pub(crate) fn stripped<'a>(begin: &str, text: &'a str) -> Option<&'a str>
     ensures { option_map (λ it. it.now) result ≡ stripped begin.now text.now }
 {

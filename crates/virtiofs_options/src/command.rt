@@ -1,10 +1,11 @@
 //! Words, part by part, as the options that are known say which have a value.
-ghost use Rattle.std.specs.Prelude.{◌≡◌, ℕ, ◌∷◌, List, IsTrue, IsFalse, IfOk, IfErr, MatchOption, option_map};
+ghost use Rattle.std.specs.Prelude.{◌≡◌, ◌≤◌, ℕ, ◌∷◌, List, length, IsTrue, IsFalse, IfOk, IfErr, MatchOption, option_map};
 ghost use Rattle.virtiofs_options.specs.GuestOptions.{is_flag, value_in};
-ghost use Rattle.virtiofs_options.specs.Parts.{begins_option, known_of, key_of, is_option, is_last, sets_by, IsOption, JoinsLong, Names, StandsFirst, IsWrong};
+ghost use Rattle.virtiofs_options.specs.Parts.{begins_option, known_of, key_of, is_option, is_last, read_after, sets_by, AreParts, HasFault, IsOption, JoinsLong, Names, StandsFirst, IsWrong, WrongOnly};
 
-use crate::fault::Fault;
+use crate::fault::{Fault, ReadError};
 use crate::options::{Known, Options, Sets, Takes};
+use std::alloc::Allocator;
 
 /// A word, once joined short options are words of their own.
 #[derive(Clone, Copy)]
@@ -88,10 +89,14 @@ pub(crate) fn key_of(text: &str) -> &str
 }
 
 /// The option of that name, where it is known.
-pub(crate) fn known_of(options: Options, name: &str) -> Option<Known>
+pub(crate) fn known_of(options: Options, name: &[u8]) -> Option<Known>
     ensures { result ≡ known_of options name.now }
 {
-    options.known.iter().find(|it| it.name == name).copied()
+    options
+        .known
+        .iter()
+        .find(|it| it.name.as_bytes() == name)
+        .copied()
 }
 
 /// Whether a word looks like an option: it begins with `-`, and has more than that.
@@ -147,7 +152,7 @@ fn apart<'a>(
     ensures read { IfOk result (λ p. StandsFirst options word.entry after.now p.0 p.1) }
     ensures refused { IfErr result (IsWrong options (word.entry ∷ after.now)) }
 {
-    let Some(row) = known_of(options, word.text) else {
+    let Some(row) = known_of(options, word.text.as_bytes()) else {
         return stray(options, word.text, word.text);
     };
     match row.takes {
@@ -161,7 +166,7 @@ fn apart<'a>(
 }
 
 /// The first part of words, and how many words it has.
-pub(crate) fn first_part<'a>(
+fn first_part<'a>(
     options: Options,
     word: Word<'a>,
     after: &[Word<'a>],
@@ -179,11 +184,44 @@ pub(crate) fn first_part<'a>(
     let Some(value) = joined else {
         return apart(options, word, after);
     };
-    let Some(row) = known_of(options, name) else {
+    let Some(row) = known_of(options, name.as_bytes()) else {
         return stray(options, word.text, name);
     };
     match row.takes {
         Takes::Nothing => Err(Fault::Unwanted(name)),
         Takes::Value | Takes::AfterEquals => Ok((Part::Valued(row, value), 1)),
     }
+}
+
+/// What is read of the words after a part: none where it is an option that tells of the program or the
+/// daemon.
+fn read_after<'w, 'a>(part: Part<'a>, rest: &'w [Word<'a>]) -> &'w [Word<'a>]
+    ensures after { result.now ≡ read_after part.entry rest.now }
+    ensures shorter { length result.now ≤ length rest.now }
+{
+    if is_last(part.sets()) { &[] } else { rest }
+}
+
+/// The parts of words, in their order, up to the first option that tells of the program or the daemon.
+///
+/// # Errors
+///
+/// The first wrong word and what is wrong with it; or a request for memory was refused.
+#[tactic(auto, using(crate::proofs::PartLemmas::parts_then_next))]
+pub(crate) fn read_parts<'a, A: Allocator>(
+    alloc: A,
+    options: Options,
+    words: &[Word<'a>],
+) -> Result<Vec<Part<'a>, A>, ReadError<'a>>
+    ensures read { IfOk result (λ parts. AreParts options words.now parts.items) }
+    ensures refused { IfErr result (WrongOnly (HasFault options words.now)) }
+{
+    let mut parts = Vec::new(alloc);
+    let mut rest = words;
+    while !rest.is_empty() {
+        let (part, count) = first_part(options, rest[0], &rest[1..])?;
+        parts.push(part)?;
+        rest = read_after(part, &rest[count..]);
+    }
+    Ok(parts)
 }

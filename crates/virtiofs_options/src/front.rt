@@ -61,14 +61,6 @@ fn has_value(parts: &[Part<'_>], option: &str) -> bool
     parts.iter().any(|part| part.value_in(option).is_some())
 }
 
-/// Whether something is asked for that `--explain` does not go with.
-fn asks_more(asked: Asked) -> bool
-    ensures { result
-        ≡ (asked.json || asked.quiet || asked.svg || asked.mend || asked.ids || asked.names) }
-{
-    asked.json || asked.quiet || asked.svg || asked.mend || asked.ids || asked.names
-}
-
 /// What the parts before the first `--` ask for.
 ///
 /// # Errors
@@ -95,10 +87,11 @@ pub(crate) fn asked_of<'a>(parts: &[Part<'a>]) -> Result<Asked, Fault<'a>>
         names: has_shown(parts, "names"),
         running: has_flag(parts, "--running"),
     };
-    if asked.mend && (asked.json || asked.quiet || asked.svg || asked.ids || asked.names) {
+    let more = asked.json || asked.quiet || asked.svg || asked.ids || asked.names;
+    if asked.mend && more {
         return Err(Fault::NotAlone);
     }
-    if has_value(parts, "--explain") && asks_more(asked) {
+    if has_value(parts, "--explain") && (asked.mend || more) {
         return Err(Fault::Beside);
     }
     Ok(asked)

@@ -5,11 +5,11 @@ ghost use Rattle.virtiofs_options.specs.Parts.{WrongOnly};
 ghost use Rattle.virtiofs_options.specs.Unknown.{told};
 
 use crate::cluster::split_words;
+use crate::command::read_parts;
 use crate::fault::{Fault, ReadError};
 use crate::guest::Guest;
 use crate::line::{after_line, beginning, first_daemon, line_of, tail_of};
 use crate::options::Options;
-use crate::parts::read_parts;
 use crate::starter::{ROOT, Starter, starter_of};
 use crate::strays::check_line;
 use crate::unknown::{UnknownWord, push_unknown};

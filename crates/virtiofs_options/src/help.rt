@@ -7,7 +7,7 @@ use std::alloc::{AllocError, Global};
 /// The program, with no options yet.
 fn program<'a>(alloc: Global) -> Command<'a> {
     Command::new(alloc, "virtiofs_mapaudit")
-        .version("3.2.2")
+        .version("3.2.3")
         .about(
             "Says what the options of a virtiofsd do to ids and names, and what is wrong with them.",
         )

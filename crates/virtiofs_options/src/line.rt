@@ -34,6 +34,7 @@ pub(crate) fn after_line<'w, 'a>(words: &'w [&'a str]) -> Option<&'w [&'a str]>
 }
 
 /// The words from a place on.
+#[tactic(auto, using(std::proofs::lemmas::List::take_rest))]
 pub(crate) fn tail_of<'w, 'a>(words: &'w [&'a str], start: usize) -> &'w [&'a str]
     requires { start ≤ length words.now }
     ensures { result.now ≡ drop start words.now }

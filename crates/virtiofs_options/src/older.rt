@@ -81,6 +81,7 @@ fn push_part<'a, A: Allocator>(
 }
 
 /// The parts of all `-o` among the parts of a command line.
+#[tactic(auto, using(crate::proofs::GuestLemmas::are_older_more))]
 pub(crate) fn older_parts<'a, A: Allocator>(
     alloc: A,
     options: Options,

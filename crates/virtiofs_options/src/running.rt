@@ -1,43 +1,25 @@
 //! What the command line of a process that runs says: whether it is a daemon's, and what that shares.
-ghost use Rattle.std.specs.Prelude.{◌≡◌, ◌<◌, length, IfSome, IfOk, IfErr};
+ghost use Rattle.std.specs.Prelude.{◌≡◌, IfOk, IfErr};
 ghost use Rattle.virtiofs_options.specs.Lines.{is_daemon};
 ghost use Rattle.virtiofs_options.specs.Parts.{WrongOnly};
-ghost use Rattle.virtiofs_options.specs.Running.{first_zero, first_word, IsDirectoryIn, Shares, IsWordFault};
+ghost use Rattle.virtiofs_options.specs.Running.{first_word, IsDirectoryIn, Shares, IsWordFault};
 
 use crate::cluster::split_words;
-use crate::command::Part;
+use crate::command::{Part, read_parts};
 use crate::fault::ReadError;
 use crate::line::{is_daemon, line_of};
 use crate::older::older_parts;
 use crate::options::Options;
-use crate::parts::read_parts;
 use crate::values::values_in;
+use crate::whole::before;
 use std::alloc::{AllocError, Global};
-
-/// Where the first zero byte stands.
-fn first_zero(text: &[u8]) -> Option<usize>
-    ensures first { result ≡ first_zero text.now }
-    ensures within { IfSome result (λ place. place < length text.now) }
-{
-    text.iter().position(|byte| *byte == 0)
-}
-
-/// The first word of a command line as the kernel shows it.
-fn first_word(cmdline: &[u8]) -> &[u8]
-    ensures { result.now ≡ first_word cmdline.now }
-{
-    match first_zero(cmdline) {
-        Some(end) => &cmdline[..end],
-        None => cmdline,
-    }
-}
 
 /// Whether a process is a daemon's, of which the kernel shows that command line: its first word is the
 /// daemon's. So no other program counts that has that word among its own, as `sudo`.
 pub fn runs_daemon(cmdline: &[u8]) -> bool
     ensures { result ≡ is_daemon (first_word cmdline.now) }
 {
-    is_daemon(first_word(cmdline))
+    is_daemon(before(cmdline, 0))
 }
 
 /// The directory that is shared, if the parts say one.

@@ -2,18 +2,21 @@
 //!
 //! A near miss of an option for ids or names is wrong, since an audit without that option would say
 //! too little, and so is what each daemon refuses. What else is not known is told.
-ghost use Rattle.std.specs.Prelude.{◌≡◌, ◌++◌, ◌∷◌, [], None, map, find, IsOk, IfOk, IfErr, OnOk, string_bytes};
+ghost use Rattle.std.specs.Char.{is_ascii_digit};
+ghost use Rattle.std.specs.List.{list_all, list_any};
+ghost use Rattle.std.specs.Prelude.{◌≡◌, ◌++◌, ◌∷◌, [], None, bytes_eq, map, find, IsOk, IfOk, IfErr, OnOk, string_bytes};
+ghost use Rattle.std.specs.Str.{str_eq_ignore_ascii_case};
 ghost use Rattle.virtiofs_options.specs.GuestOptions.{split_at_commas};
 ghost use Rattle.virtiofs_options.specs.Parts.{WrongOnly};
-ghost use Rattle.virtiofs_options.specs.Unknown.{front_of, is_near, is_near_one, is_own, is_faulty, FaultsIn, first_bad, HasTextFault, HasPartFault, misses, unknown_words, told, unknown_of};
+ghost use Rattle.virtiofs_options.specs.Unknown.{allows, are_digits, front_of, is_near, is_near_one, is_faulty, FaultsIn, first_bad, HasTextFault, HasPartFault, misses, unknown_words, told, unknown_of};
 
-use crate::allowed::allows;
+use crate::cluster::stripped;
 use crate::command::{Part, key_of};
 use crate::fault::{Fault, ReadError, shown};
 use crate::line::concerns;
 use crate::older::{after, older_of};
-use crate::options::{Known, Options, Sets};
-use crate::whole::{follows, is_line};
+use crate::options::{Known, Options, Sets, Values};
+use crate::whole::{follows, is_line, is_name};
 use std::alloc::{AllocError, Global};
 use strsim::levenshtein;
 
@@ -89,6 +92,49 @@ fn is_near_one(alloc: Global, text: &str, known: &[Known]) -> Result<bool, Alloc
     Ok(false)
 }
 
+/// Whether a text is one of these.
+fn is_of(texts: &[&str], value: &str) -> bool
+    ensures { result ≡ list_any (λ it. bytes_eq it.now value.now) texts.now }
+{
+    texts.iter().any(|it| *it == value)
+}
+
+/// Whether a text is one of these, but for small letters and large.
+fn is_of_any_case(texts: &[&str], value: &str) -> bool
+    ensures { result ≡ list_any (λ it. str_eq_ignore_ascii_case it.now value.now) texts.now }
+{
+    texts.iter().any(|it| it.eq_ignore_ascii_case(value))
+}
+
+/// Whether all bytes are digits.
+fn all_digits(bytes: &[u8]) -> bool
+    ensures { result ≡ list_all is_ascii_digit bytes.now }
+{
+    bytes.iter().all(|byte| byte.is_ascii_digit())
+}
+
+/// Whether a text is digits, after a `+` or none.
+fn are_digits(value: &str) -> bool
+    ensures { result ≡ are_digits value.now }
+{
+    let digits = stripped("+", value).unwrap_or(value).as_bytes();
+    !digits.is_empty() && all_digits(digits)
+}
+
+/// Whether the daemon takes a value.
+fn allows(values: Values, value: &str) -> bool
+    ensures { result ≡ allows values value.now }
+{
+    match values {
+        Values::Any => true,
+        Values::NoEquals => !value.as_bytes().contains(&b'='),
+        Values::Of(texts) => is_of(texts, value),
+        Values::AnyCase(texts) => is_of_any_case(texts, value),
+        Values::Digits => are_digits(value),
+        Values::Tag => !value.is_empty() && value.len() <= 36,
+    }
+}
+
 /// What is wrong with a part of `-o`, if something is.
 fn text_fault<'a>(
     alloc: Global,
@@ -123,13 +169,6 @@ fn older_fault<'a>(
     Ok(first)
 }
 
-/// Whether the name is that of an option of the program's own.
-fn is_own(options: Options, name: &str) -> bool
-    ensures { result ≡ is_own options name.now }
-{
-    options.own.iter().any(|own| own.name == name)
-}
-
 /// What is wrong with an option that is not known.
 fn stray_fault<'a>(
     alloc: Global,
@@ -142,7 +181,7 @@ fn stray_fault<'a>(
         return Ok(Some(Fault::Whole(word)));
     }
     let name = key_of(word);
-    if is_own(options, name) {
+    if is_name(options.own, name.as_bytes()) {
         return Ok(Some(Fault::AfterDashes(name)));
     }
     if is_near_one(alloc, name, options.known)? {
@@ -152,6 +191,7 @@ fn stray_fault<'a>(
 }
 
 /// What is wrong with an option that has a value.
+#[tactic(auto, using(crate::proofs::UnknownLemmas::older_faulty))]
 fn valued_fault<'a>(
     alloc: Global,
     options: Options,

@@ -1,10 +1,10 @@
 //! Texts that hold more than one word of a command line, as they do where quotes are wrong.
+ghost use Rattle.std.specs.List.{before_first};
 ghost use Rattle.std.specs.Prelude.{◌≡◌, ◌==◌, ◌<◌, length, position, IfSome};
-ghost use Rattle.virtiofs_options.specs.Parts.{key_of};
 ghost use Rattle.virtiofs_options.specs.Whole.{is_blank, is_known, is_name, begins_line, holds_option, is_line, follows};
 
 use crate::line::is_daemon;
-use crate::options::Options;
+use crate::options::{Known, Options};
 
 /// Whether a byte separates words: a blank, a tab or an end of a line.
 fn is_blank(byte: u8) -> bool
@@ -13,19 +13,20 @@ fn is_blank(byte: u8) -> bool
     matches!(byte, b' ' | b'\t' | b'\n' | b'\r')
 }
 
-/// Where the first `=` of a text stands.
-fn first_equals(text: &[u8]) -> Option<usize>
-    ensures first { result ≡ position (λ byte. byte == 61) text.now }
+/// Where the first such byte of a text stands.
+fn first_at(text: &[u8], at: u8) -> Option<usize>
+    ensures first { result ≡ position (λ byte. byte == at) text.now }
     ensures within { IfSome result (λ place. place < length text.now) }
 {
-    text.iter().position(|byte| *byte == b'=')
+    text.iter().position(|byte| *byte == at)
 }
 
-/// What a text has before the first `=`, or all of it.
-fn key_of(text: &[u8]) -> &[u8]
-    ensures { result.now ≡ key_of text.now }
+/// What a text has before the first such byte, or all of it.
+#[tactic(auto, using(crate::proofs::TextLemmas::before_position))]
+pub(crate) fn before(text: &[u8], at: u8) -> &[u8]
+    ensures { result.now ≡ before_first (λ byte. byte == at) text.now }
 {
-    match first_equals(text) {
+    match first_at(text, at) {
         Some(place) => &text[..place],
         None => text,
     }
@@ -35,22 +36,21 @@ fn key_of(text: &[u8]) -> &[u8]
 fn is_known(options: Options, text: &[u8]) -> bool
     ensures { result ≡ is_known options text.now }
 {
-    let key = key_of(text);
-    options.known.iter().any(|it| it.name.as_bytes() == key)
+    is_name(options.known, before(text, b'='))
 }
 
-/// Whether a text is the name of an option that is known.
-fn is_name(options: Options, text: &[u8]) -> bool
-    ensures { result ≡ is_name options text.now }
+/// Whether a text is the name of one of these options.
+pub(crate) fn is_name(known: &[Known], text: &[u8]) -> bool
+    ensures { result ≡ is_name known.now text.now }
 {
-    options.known.iter().any(|it| it.name.as_bytes() == text)
+    known.iter().any(|it| it.name.as_bytes() == text)
 }
 
 /// Whether a text begins a command line: it is the daemon's word, or an option without `=`.
 fn begins_line(options: Options, text: &[u8]) -> bool
     ensures { result ≡ begins_line options text.now }
 {
-    is_daemon(text) || is_name(options, text)
+    is_daemon(text) || is_name(options.known, text)
 }
 
 /// Whether one of the words in a text is an option that is known.

@@ -5,7 +5,7 @@ ghost use Rattle.virtiofs_options.specs.Parts.{WrongOnly};
 ghost use Rattle.virtiofs_options.specs.Words.{IsFront, HasFrontFault, belongs, front_fault, rest_of, names_processes, IsAudit, IsAuditFault, AreWords, AreWrongWords};
 
 use crate::cluster::split_words;
-use crate::command::{Word, is_option, known_of};
+use crate::command::{Word, is_option, known_of, read_parts};
 use crate::fault::{Fault, ReadError};
 use crate::front::{Asked, asked_of, telling_of};
 use crate::guest::Guest;
@@ -13,7 +13,6 @@ use crate::guests::{Guests, read_guests};
 use crate::help::Telling;
 use crate::line::{after_line, first_daemon, line_of, tail_of};
 use crate::options::Options;
-use crate::parts::read_parts;
 use crate::starter::ROOT;
 use crate::values::{Values, values_of};
 use crate::whole::is_line;
@@ -54,7 +53,7 @@ fn belongs(options: Options, words: &[&str], word: &str) -> bool
     ensures { result ≡ belongs options words.now word.now }
 {
     if is_option(word) {
-        return known_of(options, word).is_some();
+        return known_of(options, word.as_bytes()).is_some();
     }
     first_daemon(words).is_some()
 }
@@ -71,6 +70,7 @@ fn front_fault<'a>(options: Options, words: &[&str], fault: Fault<'a>) -> Fault<
 }
 
 /// The words after the first `--`. Without a `--`, there are none.
+#[tactic(auto, using(std::proofs::lemmas::List::drop_all))]
 fn rest_of<'w, 'a>(words: &'w [&'a str]) -> &'w [&'a str]
     ensures { result.now ≡ rest_of words.now }
 {

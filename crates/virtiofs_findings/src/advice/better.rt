@@ -1,7 +1,7 @@
 //! Which of two audits of the same guests finds less.
+ghost use Rattle.std.specs.List.{Any};
 ghost use Rattle.std.specs.Prelude.{◌≡◌, ◌↔◌, IsTrue};
 ghost use Rattle.virtiofs_findings.specs.Advice.{ids_of, first_ids, second_ids, ids_found, lies_in, lies_in_any, all_lie_in, IsAlike, IsWithin, IsNew, HasNew, FindsLess};
-ghost use Rattle.virtiofs_findings.specs.Lists.{AnyHas};
 
 use crate::audit::is_accepted;
 use crate::finding::{Evidence, Finding, Kind};
@@ -98,7 +98,7 @@ fn is_within<A: Allocator>(finding: &Finding<A>, other: &Finding<A>) -> bool
 
 /// Whether a finding is within one of the others.
 fn is_within_any<A: Allocator>(finding: &Finding<A>, others: &[Finding<A>]) -> bool
-    ensures { IsTrue result ↔ AnyHas (IsWithin finding.now) others.now }
+    ensures { IsTrue result ↔ Any (IsWithin finding.now) others.now }
 {
     for other in others {
         if is_within(finding, other) {

@@ -10,6 +10,7 @@ use crate::finding::{About, Finding, Kind};
 use crate::guest::Guest;
 use crate::ids::kept::{are_mapped, same_among, uncovered};
 use crate::ids::kind::IdKind;
+use crate::ids::meeting::but_no_id;
 use crate::setup::{IdSetUp, SetUp};
 use std::alloc::{AllocError, Allocator};
 use virtiofs_id_audit::namespace::lacking_ids;
@@ -18,16 +19,8 @@ use virtiofs_map::cmdline;
 use virtiofs_map::idmap::UidMap;
 use virtiofs_map::soft_idmap::{Direction, Entry, entry_of};
 
-/// Which parts of the options are mended.
-#[derive(Clone, Copy, PartialEq, Eq)]
-pub(super) enum Parts {
-    Both,
-    Ids,
-    Names,
-}
-
-/// What is tried: both parts together, and then each by itself.
-pub(super) const PARTS: [Parts; 3] = [Parts::Both, Parts::Ids, Parts::Names];
+/// What is tried: ids mended and names too, and then each by itself.
+pub(super) const PARTS: [(bool, bool); 3] = [(true, true), (true, false), (false, true)];
 
 /// Which ids are forbidden.
 #[derive(Clone, Copy)]
@@ -81,18 +74,12 @@ fn kept_of<A: Allocator + Copy>(
     ranges: &[UidMap],
     specs: &[cmdline::IdMap],
 ) -> Result<Vec<Span, A>, AllocError> {
-    let mut kept = Vec::new(alloc);
     if !are_mapped(specs, ranges) {
-        return Ok(kept);
+        return Ok(Vec::new(alloc));
     }
     let uncovered = uncovered(alloc, specs)?;
-    for span in same_among(alloc, ranges, uncovered.as_slice())? {
-        if span.first < u32::MAX {
-            let (first, last) = (span.first, span.last.min(u32::MAX - 1));
-            kept.push(Span { first, last })?;
-        }
-    }
-    Ok(kept)
+    let same = same_among(alloc, ranges, uncovered.as_slice())?;
+    but_no_id(alloc, same.as_slice())
 }
 
 /// Those of them that are forbidden, where they are unwanted; none where no specification maps ids of
@@ -204,7 +191,7 @@ fn drops_acl<A: Allocator>(accepted: &[Kind], set: &SetUp<A>) -> bool {
 /// What is tried in place of the options of the guest of a number, of whom that was found. No ids are forbidden where access control lists stay on and no ids are translated yet.
 pub(super) fn mended_options<A: Allocator + Copy>(
     alloc: A,
-    parts: Parts,
+    (mends_ids, mends_names): (bool, bool),
     accepted: &[Kind],
     number: usize,
     guest: &Guest<'_, A>,
@@ -219,7 +206,7 @@ pub(super) fn mended_options<A: Allocator + Copy>(
         rules: None,
         keeps_acl,
     };
-    if parts != Parts::Names && (!keeps_acl || set.acl_refused || set.acl_untranslated) {
+    if mends_ids && (!keeps_acl || set.acl_refused || set.acl_untranslated) {
         let (users, groups) = (IdKind::Users, IdKind::Groups);
         options.translate_uid = mended_texts(
             alloc, unwanted, accepted, number, users, &set.users, found,
@@ -235,7 +222,7 @@ pub(super) fn mended_options<A: Allocator + Copy>(
         )?;
     }
     if let Some(names) = &set.names
-        && parts != Parts::Ids
+        && mends_names
     {
         let has = |kind: Kind| counts(accepted, number, found, &[kind], None);
         let (idle, no_rule) = (has(Kind::IdleRule), has(Kind::NoRule));

@@ -3,7 +3,7 @@ ghost use Rattle.std.specs.Prelude.{◌≡◌, ◌↔◌, IfOk, IsTrue, length};
 ghost use Rattle.std.specs.List.{AllZip};
 ghost use Rattle.virtiofs_map.specs.RuleParts.{rule_meant};
 ghost use Rattle.virtiofs_findings.specs.Narrower.{BothOrNone, NarrowerKind, NarrowerRules, NarrowerNames, NarrowerSet, SameKind, SameRules, SameSet, deny_all};
-ghost use Rattle.virtiofs_findings.specs.NarrowerParts.{EndsAt, IsSameAt};
+ghost use Rattle.virtiofs_findings.specs.FindingParts.{EndsAt, IsSameAt};
 
 use crate::advice::mended::{Unwanted, mended_ids};
 use crate::setup::{IdSetUp, NamesSetUp, SetUp};

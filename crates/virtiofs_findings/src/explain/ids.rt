@@ -2,14 +2,13 @@
 //! namespace.
 ghost use Rattle.std.specs.Prelude.{◌≡◌, ◌↔◌, IsTrue, MatchBool};
 ghost use Rattle.virtiofs_map.specs.Mapping.{Covers, Becomes};
-ghost use Rattle.virtiofs_findings.specs.ExplainIds.{CoversAt, IsBySpecs, MovesAt, IsByRanges, IsByRangesOf, inside_of, Meets, end_of, back_from, MeetsBack, LeadsTo, ExplainsId};
+ghost use Rattle.virtiofs_findings.specs.ExplainIds.{CoversAt, IsBySpecs, MovesAt, IsByRanges, inside_of, Meets, end_of, back_from, MeetsBack, LeadsTo, ExplainsId};
 
 use crate::ids::Ids;
 use crate::setup::IdSetUp;
 use std::alloc::Global;
 use virtiofs_id_audit::outside::{Way, id_moved};
 use virtiofs_map::cmdline::IdMap as Spec;
-use virtiofs_map::id_types::{GuestUid, HostUid, Id};
 use virtiofs_map::idmap::UidMap;
 use virtiofs_map::soft_idmap::{Direction, entry_of};
 
@@ -61,6 +60,7 @@ fn covers(spec: Spec, direction: Direction, id: u32) -> bool
 }
 
 /// The place, counted from 0, of the specification that covers an id.
+#[tactic(auto, using(crate::proofs::ListLemmas::at_a_place))]
 fn covering(specs: &[Spec], direction: Direction, id: u32) -> Option<usize>
     ensures { CoversAt specs.now direction id result }
 {
@@ -72,39 +72,17 @@ fn covering(specs: &[Spec], direction: Direction, id: u32) -> Option<usize>
     None
 }
 
-/// What a map makes of an id of the guest.
-fn of_guest(map: &Ids<Global>, id: u32) -> Option<u32>
-    ensures { Becomes map.now Direction.GuestToHost id result }
-{
-    match map.map_guest(GuestUid::from(id)) {
-        Ok(host) => Some(host.into_inner()),
-        Err(_) => None,
-    }
-}
-
-/// What a map makes of an id of the host.
-fn of_host(map: &Ids<Global>, id: u32) -> Option<u32>
-    ensures { Becomes map.now Direction.HostToGuest id result }
-{
-    match map.map_host(HostUid::from(id)) {
-        Ok(guest) => Some(guest.into_inner()),
-        Err(_) => None,
-    }
-}
-
 /// What the specifications of a map make of an id.
 fn by_specs(map: &Ids<Global>, direction: Direction, id: u32) -> Layer
     ensures { IsBySpecs map.now direction id result }
 {
     let place = covering(map.specs(), direction, id);
-    let becomes = match direction {
-        Direction::GuestToHost => of_guest(map, id),
-        Direction::HostToGuest => of_host(map, id),
-    };
+    let becomes = map.lent().becomes(direction, id);
     Layer { place, becomes }
 }
 
 /// What the ranges, of which there are some, make of an id.
+#[tactic(auto, using(crate::proofs::ListLemmas::at_a_place))]
 fn by_some_ranges(ranges: &[UidMap], way: Way, id: u32) -> Layer
     ensures { MovesAt ranges.now way id result.place result.becomes }
 {
@@ -122,21 +100,14 @@ fn by_some_ranges(ranges: &[UidMap], way: Way, id: u32) -> Layer
     }
 }
 
-/// What the ranges make of an id; `None` if there are none.
-fn by_ranges(ranges: &[UidMap], way: Way, id: u32) -> Option<Layer>
+/// What the ranges make of the id that comes to them; `None` if none does, or there are none.
+fn by_ranges(ranges: &[UidMap], way: Way, id: Option<u32>) -> Option<Layer>
     ensures { IsByRanges ranges.now way id result }
 {
     if ranges.is_empty() {
         return None;
     }
-    Some(by_some_ranges(ranges, way, id))
-}
-
-/// What the ranges make of what the specifications made of an id of the guest.
-fn by_ranges_of(ranges: &[UidMap], id: Option<u32>) -> Option<Layer>
-    ensures { IsByRangesOf ranges.now id result }
-{
-    by_ranges(ranges, Way::Outwards, id?)
+    Some(by_some_ranges(ranges, way, id?))
 }
 
 /// What an id of the host is inside the namespace.
@@ -157,11 +128,11 @@ fn layers_of(set: &IdSetUp<Global>, direction: Direction, id: u32) -> Layers
     match direction {
         Direction::GuestToHost => {
             let specs = by_specs(&set.map, direction, id);
-            let ranges = by_ranges_of(all, specs.becomes);
+            let ranges = by_ranges(all, Way::Outwards, specs.becomes);
             Layers { specs, ranges }
         }
         Direction::HostToGuest => {
-            let ranges = by_ranges(all, Way::Inwards, id);
+            let ranges = by_ranges(all, Way::Inwards, Some(id));
             let specs = by_specs(&set.map, direction, inside_of(id, ranges));
             Layers { specs, ranges }
         }

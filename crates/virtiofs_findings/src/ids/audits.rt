@@ -1,8 +1,7 @@
 //! What is decided of all ids of a guest.
-ghost use Rattle.std.specs.Prelude.{◌≡◌, ◌↔◌, ℕ, IfOk, IsTrue};
+ghost use Rattle.std.specs.Prelude.{◌↔◌, IfOk, IsTrue};
 ghost use Rattle.virtiofs_id_audit.specs.IdAudit.{GoesTo, GoesInto, Hold};
 ghost use Rattle.virtiofs_findings.specs.IdFindings.{FindsAll, IsAstrayBut, TellsAstray, TellsHost, FindsIds, ActAsRoot};
-ghost use Rattle.virtiofs_id_audit.specs.Namespace.{IsRoot};
 
 use super::found::{IdFindings, IdsFound};
 use crate::ids::Ids;
@@ -80,14 +79,6 @@ pub(super) fn ids_to<A: Allocator + Copy>(
     }))
 }
 
-/// The ids inside the namespace of these ranges that are root outside it.
-fn root_ids<A: Allocator + Copy>(alloc: A, ranges: &[UidMap]) -> Result<Vec<Span, A>, AllocError>
-    ensures { IfOk result (λ ids. (inside : ℕ) → Hold ids.items inside ↔ IsRoot ranges.now inside) }
-{
-    let root = [Span { first: 0, last: 0 }];
-    moved_all(alloc, Way::Inwards, ranges, &root)
-}
-
 /// The ids of a guest that act as root of the host, whose daemon runs in a namespace of these
 /// ranges.
 pub(crate) fn acting_as_root<A: Allocator + Copy>(
@@ -97,8 +88,9 @@ pub(crate) fn acting_as_root<A: Allocator + Copy>(
 ) -> Result<Option<IdsFound<A>>, AllocError>
     ensures { IfOk result (ActAsRoot map.now ranges.now) }
 {
-    let root = root_ids(alloc, ranges)?;
-    ids_to(alloc, map, root.as_slice())
+    let root = [Span { first: 0, last: 0 }];
+    let inside = moved_all(alloc, Way::Inwards, ranges, &root)?;
+    ids_to(alloc, map, inside.as_slice())
 }
 
 /// What is wrong with the ids of a guest, whose daemon runs in a namespace of these ranges.

@@ -2,7 +2,7 @@
 ghost use Rattle.std.specs.Prelude.{◌≡◌, ◌↔◌, ℕ, IfOk, IsTrue, map};
 ghost use Rattle.virtiofs_id_audit.specs.IdAudit.{Hold};
 ghost use Rattle.virtiofs_findings.specs.IdFindings.{AreMapped, FindsKept};
-ghost use Rattle.virtiofs_findings.specs.KeptParts.{cover_of, same_of, IsUncovered, IsSame};
+ghost use Rattle.virtiofs_findings.specs.FindingParts.{cover_of, same_of, IsUncovered, IsSame};
 
 use super::audits::ids_to;
 use super::found::IdsFound;

@@ -1,7 +1,7 @@
 //! The ids of the host that two guests reach, outside the namespaces of their daemons.
 ghost use Rattle.std.specs.Prelude.{◌≡◌, ◌<◌, ◌↔◌, ℕ, IfOk, MatchOption};
 ghost use Rattle.virtiofs_id_audit.specs.IdAudit.{IsLeastId, GoesInto, Hold};
-ghost use Rattle.virtiofs_findings.specs.IdFindings.{ReachedOutside, Meets, TellsMeeting, FindsMeeting};
+ghost use Rattle.virtiofs_findings.specs.IdFindings.{ReachedOutside, Meets, FindsMeeting};
 ghost use Rattle.virtiofs_id_audit.specs.Namespace.{StandsBy, StandsFor};
 
 use super::found::IdsFound;
@@ -91,40 +91,11 @@ fn met_of<A: Allocator + Copy>(
     Ok(None)
 }
 
-/// What is told of ids of the first guest that are ids of the host which the second reaches, where
-/// `guest` is the least of them.
-fn meeting_at<A: Allocator + Copy>(
-    alloc: A,
-    one: &IdSetUp<A>,
-    other: &IdSetUp<A>,
-    guest: GuestUid,
-    ids: Vec<Span, A>,
-) -> Result<IdsFound<A>, AllocError>
-    requires { GoesInto one.now.map
-        (Meets one.now.ranges.items other.now.map other.now.ranges.items) guest }
-    ensures ids { IfOk result (λ found. found.ids ≡ ids) }
-    ensures guest { IfOk result (λ found. found.guest ≡ guest) }
-    ensures told { IfOk result (TellsMeeting one.now.map one.now.ranges.items
-        other.now.map other.now.ranges.items) }
-{
-    let Ok(inside) = one.map.map_guest(guest) else {
-        unreachable!();
-    };
-    let met = met_of(alloc, one.ranges.as_slice(), inside.into_inner(), other)?;
-    let Some(met) = met else {
-        unreachable!();
-    };
-    Ok(IdsFound {
-        ids,
-        guest: guest.into_inner(),
-        host: met.host,
-        other: met.guest,
-        is_shared: false,
-    })
-}
-
 /// The ids of the spans, but for 4294967295, which is none.
-fn but_no_id<A: Allocator + Copy>(alloc: A, spans: &[Span]) -> Result<Vec<Span, A>, AllocError>
+pub(crate) fn but_no_id<A: Allocator + Copy>(
+    alloc: A,
+    spans: &[Span],
+) -> Result<Vec<Span, A>, AllocError>
     ensures { IfOk result (λ ids. (id : ℕ)
         → Hold ids.items id ↔ (Hold spans.now id × (id < 4294967295))) }
 {
@@ -166,11 +137,24 @@ pub(crate) fn meeting_of<A: Allocator + Copy>(
     ensures { IfOk result (FindsMeeting one.now.map one.now.ranges.items
         other.now.map other.now.ranges.items) }
 {
-    let met = met_inside(alloc, one.ranges.as_slice(), other)?;
-    let ids = ids_into(alloc, &one.map, met.as_slice())?;
+    let hosts = met_inside(alloc, one.ranges.as_slice(), other)?;
+    let ids = ids_into(alloc, &one.map, hosts.as_slice())?;
     let Some(span) = ids.as_slice().first() else {
         return Ok(None);
     };
     let guest = GuestUid::from(span.first);
-    Ok(Some(meeting_at(alloc, one, other, guest, ids)?))
+    let Ok(inside) = one.map.map_guest(guest) else {
+        unreachable!();
+    };
+    let met = met_of(alloc, one.ranges.as_slice(), inside.into_inner(), other)?;
+    let Some(met) = met else {
+        unreachable!();
+    };
+    Ok(Some(IdsFound {
+        ids,
+        guest: guest.into_inner(),
+        host: met.host,
+        other: met.guest,
+        is_shared: false,
+    }))
 }

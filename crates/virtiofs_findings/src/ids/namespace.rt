@@ -1,7 +1,7 @@
 //! The user namespace that a daemon runs in: its ranges.
 ghost use Rattle.std.specs.Prelude.{◌≡◌, ◌↔◌, ◌+◌, ◌-◌, ◌++◌, ◌<◌, ◌^◌, All, IfOk, IsTrue, OnOk, find, option_map};
-ghost use Rattle.virtiofs_findings.specs.RangeParts.{AgreeAround};
-ghost use Rattle.virtiofs_findings.specs.Ranges.{own_of, said_own, is_own, is_alone, shown_of, is_host, but_host, set_up_ranges, mapped_ranges, ranges_of, as_taken, taken, has, has_outside, some_has, some_has_outside, is_outside, if_some, below_overflow, above_overflow, but_overflow, acting_ranges, outside_of, AreSame, Differ};
+ghost use Rattle.virtiofs_findings.specs.FindingParts.{AgreeAround};
+ghost use Rattle.virtiofs_findings.specs.Ranges.{said_own, is_own, is_alone, shown_of, is_host, but_host, set_up_ranges, mapped_ranges, ranges_of, as_taken, taken, has, has_outside, some_has, some_has_outside, is_outside, if_some, below_overflow, above_overflow, but_overflow, acting_ranges, outside_of, AreSame, Differ};
 
 use crate::explain::ids::OVERFLOW_ID;
 use crate::ids::ranges::MOST_RANGES;
@@ -17,13 +17,6 @@ pub(crate) fn said_own<A: Allocator>(bounds: Option<&Bounds<A>>) -> Option<u32>
         Some(bounds) => Some(bounds.own),
         None => None,
     }
-}
-
-/// The id that a daemon runs as: root, where nothing else is said.
-pub(crate) fn own_of<A: Allocator>(bounds: Option<&Bounds<A>>) -> u32
-    ensures { result ≡ own_of (option_map (λ it. it.now) bounds.entry) }
-{
-    said_own(bounds).unwrap_or(0)
 }
 
 /// Whether a daemon can act as the id that it runs as alone, where no namespace has others.
@@ -146,7 +139,7 @@ fn mapped_ranges<A: Allocator>(
     ensures { IfOk result (λ ranges. ranges.items
         ≡ mapped_ranges (option_map (λ it. it.now) bounds.entry) own_alone written.now) }
 {
-    let own = own_of(bounds);
+    let own = said_own(bounds).unwrap_or(0);
     match shown_of(bounds) {
         Some(shown) => set_up_ranges(alloc, is_alone(bounds), own, but_host(shown)),
         None => set_up_ranges(alloc, own_alone, own, written),

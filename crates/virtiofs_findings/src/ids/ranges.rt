@@ -1,6 +1,6 @@
 //! What is wrong with the ranges of a daemon's namespace.
 ghost use Rattle.std.specs.Prelude.{◌≡◌, ◌↔◌, ◌++◌, length, IfOk, IsTrue, MatchOption, OnOk, option_map, string_bytes};
-ghost use Rattle.virtiofs_findings.specs.RangeParts.{MeetsNone, MeetsAs};
+ghost use Rattle.virtiofs_findings.specs.FindingParts.{MeetsNone, MeetsAs};
 ghost use Rattle.virtiofs_findings.specs.Ranges.{MeetAt, IsBeyond, IsRefused, line_of, lines_of, IsAtFault, FindsFault};
 
 use std::alloc::{AllocError, Allocator};

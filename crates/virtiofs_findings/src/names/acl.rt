@@ -1,11 +1,12 @@
 //! Access control lists whose attributes the rules pass under other names.
 ghost use Rattle.std.specs.Prelude.{IfOk, OnOk, ◌≡◌};
-ghost use Rattle.virtiofs_findings.specs.AclNames.{acl_bytes, FindsRenamed, FindsAclName, FindsAclNames};
-ghost use Rattle.virtiofs_findings.specs.NameParts.{IsOther};
+ghost use Rattle.virtiofs_findings.specs.AclNames.{acl_bytes, FindsRenamed, FindsAclName, FindsAcl};
+ghost use Rattle.virtiofs_findings.specs.FindingParts.{IsOther};
 ghost use Rattle.virtiofs_findings.specs.Lists.{Adds};
 
-use crate::finding::{Evidence, Finding, Kind};
-use crate::report::push_of_guest;
+use crate::finding::{About, Evidence, Finding, Kind};
+use crate::report::push_found;
+use crate::setup::NamesSetUp;
 use std::alloc::{AllocError, Allocator};
 use virtiofs_map::xattrmap::{AppliedRule, ErrorKind, XattrMap, XattrName};
 
@@ -32,14 +33,8 @@ pub fn acl_name(name: AclName) -> &'static str
 fn attribute(name: AclName) -> XattrName<'static>
     ensures { result.bytes.now ≡ acl_bytes name }
 {
-    match name {
-        AclName::Access => XattrName {
-            bytes: b"system.posix_acl_access",
-        },
-        AclName::Default => XattrName {
-            bytes: b"system.posix_acl_default",
-        },
-    }
+    let bytes = acl_name(name).as_bytes();
+    XattrName { bytes }
 }
 
 /// The name as which the guest's passes, if that is another one.
@@ -86,26 +81,28 @@ fn push_acl_name<A: Allocator + Copy>(
     ensures { OnOk result
         (Adds (FindsAclName number map.now name) found.old.items found.new.items) }
 {
-    let Some(host) = renamed(alloc, map, attribute(name))? else {
-        return Ok(());
-    };
-    push_of_guest(
-        found,
-        number,
-        Kind::AclRenamed,
-        Evidence::Renamed(name, host),
-    )
+    let host = renamed(alloc, map, attribute(name))?;
+    let evidence = host.map(|host| Evidence::Renamed(name, host));
+    push_found(found, About::Guest(number), Kind::AclRenamed, evidence)
 }
 
-/// Adds which names of access control lists pass as others.
-pub(crate) fn push_acl_names<A: Allocator + Copy>(
+/// Adds which names of access control lists pass as others, if these lists are on and there are rules.
+#[tactic(auto, using(std::proofs::Common::append_assoc))]
+pub(crate) fn push_acl<A: Allocator + Copy>(
     alloc: A,
     found: &mut Vec<Finding<A>, A>,
     number: usize,
-    map: &XattrMap<A>,
+    are_on: bool,
+    set: &Option<NamesSetUp<A>>,
 ) -> Result<(), AllocError>
-    ensures { OnOk result (Adds (FindsAclNames number map.now) found.old.items found.new.items) }
+    ensures { OnOk result (Adds (FindsAcl number are_on set.now) found.old.items found.new.items) }
 {
-    push_acl_name(alloc, found, number, map, AclName::Access)?;
-    push_acl_name(alloc, found, number, map, AclName::Default)
+    if !are_on {
+        return Ok(());
+    }
+    let Some(set) = set else {
+        return Ok(());
+    };
+    push_acl_name(alloc, found, number, &set.map, AclName::Access)?;
+    push_acl_name(alloc, found, number, &set.map, AclName::Default)
 }

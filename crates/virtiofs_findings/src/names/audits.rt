@@ -2,12 +2,14 @@
 ghost use Rattle.std.specs.Prelude.{◌≡◌, ◌<◌, ◌↔◌, IfOk, OnOk, IsTrue};
 ghost use Rattle.virtiofs_map.specs.Audit.{AnswersLeast, HasFault, Within};
 ghost use Rattle.virtiofs_findings.specs.Lists.{Adds};
-ghost use Rattle.virtiofs_findings.specs.NameFindings.{FindsName, FindsLeast, DecidesWritten, FindsIdle, FindsUnruled, FindsNames, name_found};
-ghost use Rattle.virtiofs_findings.specs.NameParts.{DecidesFrom};
+ghost use Rattle.virtiofs_findings.specs.Report.{FindsIf, FindsNamesOf};
+ghost use Rattle.virtiofs_findings.specs.NameFindings.{FindsName, FindsLeast, DecidesWritten, FindsIdle, FindsIdleAt, FindsUnruled};
+ghost use Rattle.virtiofs_findings.specs.FindingParts.{DecidesFrom};
 
 use super::found::LeastName;
-use crate::finding::{Evidence, Finding, Kind};
-use crate::report::push_of_guest;
+use crate::finding::{About, Evidence, Finding, Kind};
+use crate::report::push_found;
+use crate::setup::NamesSetUp;
 use std::alloc::{AllocError, Allocator};
 use virtiofs_map::audit::{Audit, NameFault, ask};
 use virtiofs_map::xattrmap::{XattrMap, XattrName};
@@ -39,9 +41,8 @@ fn least_within<A: Allocator + Copy>(
     ask(alloc, fault, map.as_ref(), other.as_ref(), beginning)
 }
 
-/// The least names with a fault, if there is any. The second map is that of the other guest; for
-/// faults of one guest it makes no difference.
-pub(crate) fn least_name<A: Allocator + Copy>(
+/// The least names with a fault, if there is any.
+fn least_name<A: Allocator + Copy>(
     alloc: A,
     fault: NameFault,
     map: &XattrMap<A>,
@@ -91,8 +92,25 @@ pub(crate) fn decides_written<A: Allocator>(map: &XattrMap<A>, written: usize, p
     map.decides(place)
 }
 
-/// Adds the written rules that decide no name.
+/// Adds that a written rule decides no name, if it decides none.
 fn push_idle<A: Allocator>(
+    found: &mut Vec<Finding<A>, A>,
+    number: usize,
+    map: &XattrMap<A>,
+    written: usize,
+    place: usize,
+) -> Result<(), AllocError>
+    requires { place < written }
+    ensures { OnOk result
+        (Adds (FindsIdleAt number map.now written 0 place) found.old.items found.new.items) }
+{
+    let idle = !decides_written(map, written, place);
+    let evidence = idle.then_some(Evidence::Rule(place));
+    push_found(found, About::Guest(number), Kind::IdleRule, evidence)
+}
+
+/// Adds the written rules that decide no name.
+fn push_all_idle<A: Allocator>(
     found: &mut Vec<Finding<A>, A>,
     number: usize,
     map: &XattrMap<A>,
@@ -102,15 +120,13 @@ fn push_idle<A: Allocator>(
         (Adds (FindsIdle number map.now written) found.old.items found.new.items) }
 {
     for place in 0..written {
-        if decides_written(map, written, place) {
-            continue;
-        }
-        push_of_guest(found, number, Kind::IdleRule, Evidence::Rule(place))?;
+        push_idle(found, number, map, written, place)?;
     }
     Ok(())
 }
 
 /// Adds that some names have no rule, unless each has one.
+#[tactic(auto, using(crate::proofs::NameLemmas::found_unless))]
 fn push_unruled<A: Allocator>(
     found: &mut Vec<Finding<A>, A>,
     number: usize,
@@ -118,52 +134,48 @@ fn push_unruled<A: Allocator>(
 ) -> Result<(), AllocError>
     ensures { OnOk result (Adds (FindsUnruled number map.now) found.old.items found.new.items) }
 {
-    if map.is_terminated() {
-        return Ok(());
-    }
-    push_of_guest(found, number, Kind::NoRule, Evidence::Plain)
+    let unruled = !map.is_terminated();
+    let evidence = unruled.then_some(Evidence::Plain);
+    push_found(found, About::Guest(number), Kind::NoRule, evidence)
 }
 
-/// Adds the least name that has this fault, if there is one.
-fn push_name<A: Allocator + Copy>(
+/// Adds the least name that has this fault, if there is one. The second map is that of the other guest;
+/// for faults of one guest it makes no difference.
+pub(crate) fn push_name<A: Allocator + Copy>(
     alloc: A,
     found: &mut Vec<Finding<A>, A>,
-    number: usize,
+    about: About,
     kind: Kind,
     fault: NameFault,
     map: &XattrMap<A>,
+    other: &XattrMap<A>,
 ) -> Result<(), AllocError>
-    ensures { OnOk result (Adds
-        (FindsLeast (name_found number kind) (HasFault fault map.now map.now))
+    ensures { OnOk result (Adds (FindsLeast about kind (HasFault fault map.now other.now))
         found.old.items found.new.items) }
 {
-    let Some(least) = least_name(alloc, fault, map, map)? else {
-        return Ok(());
-    };
-    push_of_guest(found, number, kind, Evidence::Name(least))
+    let least = least_name(alloc, fault, map, other)?;
+    push_found(found, about, kind, least.map(|least| Evidence::Name(least)))
 }
 
-/// Adds what is wrong with the names of the guest of that number under these rules, of which that many
-/// are written.
+/// Adds what is wrong with the names of the guest of that number, where there are rules and they are not
+/// refused.
 pub(crate) fn push_names<A: Allocator + Copy>(
     alloc: A,
     found: &mut Vec<Finding<A>, A>,
     number: usize,
-    map: &XattrMap<A>,
-    written: usize,
+    set: &Option<NamesSetUp<A>>,
 ) -> Result<(), AllocError>
     ensures { OnOk result
-        (Adds (FindsNames number map.now written) found.old.items found.new.items) }
+        (Adds (FindsIf (FindsNamesOf number) set.now) found.old.items found.new.items) }
 {
+    let Some(set) = set else {
+        return Ok(());
+    };
+    let (about, map) = (About::Guest(number), &set.map);
+    let (lost, stray) = (NameFault::Lost, NameFault::Stray);
     push_unruled(found, number, map)?;
-    push_name(alloc, found, number, Kind::NotListed, NameFault::Lost, map)?;
-    push_name(
-        alloc,
-        found,
-        number,
-        Kind::ListedElsewhere,
-        NameFault::Stray,
-        map,
-    )?;
-    push_idle(found, number, map, written)
+    push_name(alloc, found, about, Kind::NotListed, lost, map, map)?;
+    push_name(alloc, found, about, Kind::ListedElsewhere, stray, map, map)?;
+    push_all_idle(found, number, map, set.written)?;
+    Ok(())
 }

@@ -1,19 +1,16 @@
 -- Two lists of specifications, one after the other.
-use Rattle.std.proofs.Common.{◌≡◌, ◌⊎◌, ◌↔◌, inl, inr, ℕ, List, [], ◌∷◌, ◌++◌, length, AllPairs, Contains, Option, Some}
-use Rattle.std.proofs.Common.{None, IsSomeAnd, IfSome, refl, ◌∙◌, arith, rules}
-use Rattle.std.proofs.lemmas.Bool.{cases_eq, cases_lt}
+use Rattle.std.proofs.Common.{◌≡◌, ◌⊎◌, ◌↔◌, inl, inr, ℕ, List, [], ◌∷◌, ◌++◌, length, AllPairs, Contains, Option}
+use Rattle.std.proofs.Common.{IfSome, refl, ◌∙◌, arith, rules}
+use Rattle.std.proofs.lemmas.Bool.{cases_lt}
 use Rattle.std.proofs.lemmas.List.{get_or_push, get_or_append_left, get_or-append_right, length-append}
-use Rattle.std.proofs.lemmas.List.Elements.{All-append, All-cons, All-contains, All-nil, Contains-append_left}
+use Rattle.std.proofs.lemmas.List.Elements.{All-append, All-nil, Contains-append_left}
 use Rattle.std.proofs.lemmas.List.Elements.{Contains-append_right, Contains-append_cases, Contains-get_or}
 use Rattle.virtiofs_id_audit.specs.Mending.{StandsBefore}
 use Rattle.virtiofs_id_audit.specs.MendingParts.{Listed}
 use Rattle.virtiofs_map.specs.Build.{Accepted, HasSource, HasTarget, Meet}
-use Rattle.virtiofs_map.specs.Mapping.{entry_of, target_of, EntryCovers, Covers, Maps, Becomes}
-use Rattle.virtiofs_map.specs.MappingLaws.{LeadsBack}
+use Rattle.virtiofs_map.specs.Mapping.{entry_of, Covers, Maps}
 use Rattle.virtiofs_map.specs.declared.cmdline.IdMap.{IdMap}
 use Rattle.virtiofs_map.specs.declared.soft_idmap.entry.Direction.{Direction}
-use Rattle.virtiofs_map.specs.declared.soft_idmap.entry.Direction.TheVariants.{GuestToHost, HostToGuest}
-use Rattle.virtiofs_map.specs.declared.soft_idmap.entry.Entry.{Entry}
 use Rattle.virtiofs_id_audit.proofs.RoundTripLemmas.{covered_maps, only}
 
 -- ---- what is listed

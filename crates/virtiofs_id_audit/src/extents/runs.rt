@@ -1,8 +1,7 @@
 //! Neighbouring ids of the guest that are all sought, or of which none is.
 ghost use Rattle.std.specs.Prelude.{◌≡◌, ◌<◌, ◌≤◌};
-ghost use Rattle.virtiofs_id_audit.specs.ExtentParts.{IsSought, of_bad, IsRun, AreStarts};
 ghost use Rattle.virtiofs_id_audit.specs.IdAudit.{IsAstray, GoesInto, Hold, AreRuns};
-ghost use Rattle.virtiofs_id_audit.specs.IdAuditParts.{BecomesOne, IsMoved};
+ghost use Rattle.virtiofs_id_audit.specs.IdAuditParts.{BecomesOne, IsMoved, IsSought, of_bad, IsRun, AreStarts};
 ghost use Rattle.virtiofs_map.specs.Build.{Accepted};
 ghost use Rattle.virtiofs_map.specs.Pieces.{IsNamed};
 

@@ -1,6 +1,6 @@
 //! The ids of the guest that are sought, found run by run.
 ghost use Rattle.std.specs.Prelude.{◌↔◌, ◌<◌, ◌≤◌, ℕ, All, IfOk};
-ghost use Rattle.virtiofs_id_audit.specs.ExtentParts.{IsSought};
+ghost use Rattle.virtiofs_id_audit.specs.IdAuditParts.{IsSought};
 ghost use Rattle.virtiofs_id_audit.specs.IdAudit.{IsLeastIfAny, IsAstray, GoesInto, Hold, AreRuns};
 ghost use Rattle.virtiofs_map.specs.Build.{Accepted};
 

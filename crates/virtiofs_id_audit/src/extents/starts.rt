@@ -1,6 +1,6 @@
 //! At which ids of the guest a run of ids that come back may begin.
 ghost use Rattle.std.specs.Prelude.{IfOk};
-ghost use Rattle.virtiofs_id_audit.specs.ExtentParts.{AreStarts};
+ghost use Rattle.virtiofs_id_audit.specs.IdAuditParts.{AreStarts};
 ghost use Rattle.virtiofs_id_audit.specs.IdAudit.{AreRuns};
 
 use crate::images::merged;

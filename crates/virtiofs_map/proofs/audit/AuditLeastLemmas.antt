@@ -7,6 +7,7 @@ use Rattle.std.specs.declared.cmp.Ordering.{Ordering}
 use Rattle.std.specs.declared.cmp.Ordering.TheVariants.{Less}
 use Rattle.std.proofs.lemmas.Bool.{false≢true, true≢false}
 use Rattle.std.proofs.lemmas.List.{length-append}
+use Rattle.std.proofs.lemmas.Result.{IfOk-weaker}
 use Rattle.std.proofs.lemmas.Cmp.{nat_list_cmp_total, tied_itself}
 use Rattle.virtiofs_map.specs.Audit.{IsBefore, AnswersLeast, Within}
 use Rattle.virtiofs_map.specs.AuditParts.{TriedSoFar, none_tried, is_first, told, Handled, Tries}
@@ -61,10 +62,9 @@ tries_counted same e tries = grind arith
 
 -- ---- many names
 
-pub tries_join : {Bad names others all : List ℕ → Type 0} {m n most : ℕ} {a b c : TriedSoFar}
-    → Tries Bad names m a b → Tries Bad others n b c → ((name : List ℕ) → all name → names name ⊎ others name)
-    → m + n ≤ most → Tries Bad all most a c
-tries_join first then cover l = grind arith
+pub tries_both : {Bad names others : List ℕ → Type 0} {m n : ℕ} {a b c : TriedSoFar} → Tries Bad names m a b
+    → Tries Bad others n b c → Tries Bad (λ name. names name ⊎ others name) (m + n) a c
+tries_both first then = grind arith
 
 pub tries_fewer : {Bad names all : List ℕ → Type 0} {m most : ℕ} {a b : TriedSoFar} → Tries Bad names m a b
     → ((name : List ℕ) → all name → names name) → m ≤ most → Tries Bad all most a b
@@ -120,15 +120,12 @@ pub answers_all : {A : Type 0} (Bad : List ℕ → Type 0) (answer : Audit A) �
 answers_all Bad answer none = grind arith
 
 -- the same of a call that may run out of memory
-pub if_ok_weaker : {X Y : Type 0} (r : Result X Y) (P Q : X → Type 0) → ((x : X) → P x → Q x) → IfOk r P → IfOk r Q
-if_ok_weaker r P Q f p = grind arith
-
 pub answers_ok : {A E : Type 0} (r : Result (Audit A) E) (Bad : List ℕ → Type 0)
     → IfOk r (AnswersLeast (Within [] Bad)) → IfOk r (AnswersLeast Bad)
-answers_ok r Bad least = if_ok_weaker r _ _ (answers_all Bad) least
+answers_ok r Bad least = IfOk-weaker r _ _ (answers_all Bad) least
 
 pub holds_ok : {A E : Type 0} (r : Result (Audit A) E) (Bad : List ℕ → Type 0) (Holds : Type 0)
     → (((name : List ℕ) → ¬ Bad name) → Holds) → (Holds → (name : List ℕ) → ¬ Bad name)
     → IfOk r (AnswersLeast (Within [] Bad)) → IfOk r (λ audit. (audit ≡ Yes) ↔ Holds)
 holds_ok r Bad Holds to from least =
-    if_ok_weaker r _ _ (λ answer none. yes_where_none Bad Holds answer (answers_all Bad answer none) to from) least
+    IfOk-weaker r _ _ (λ answer none. yes_where_none Bad Holds answer (answers_all Bad answer none) to from) least

@@ -17,18 +17,6 @@ use Rattle.virtiofs_map.proofs.audit.AuditPassLemmas.{host_is, host_no_zero, hos
 
 -- ---- listed back
 
--- a name of which just as much is taken off as was put before it lists back
-back_where_cut : (rules : List MappingRule) (name added : List ℕ) → All HasNoZero rules → IsName name → name ≢ []
-    → added_prefix Client rules name ≡ Some added → CutsAt rules (added ++ name) (length added) → ListsBack rules name
-back_where_cut rules name added no_zero is some e (cut, at, long) =
-    let listed = cut_listed rules (added ++ name) cut at in
-    let rest : drop (length cut) (added ++ name) ≡ name = drop_at added name (length cut) (sym long) in
-    record {
-      becomes = added ++ name;
-      passes = added_passes rules name added e;
-      lists = grind (arith, server_one, host_not_empty, host_no_zero, answer_to_one);
-    }
-
 length_back : (added name cut : List ℕ) → name ≢ [] → length (drop (length cut) (added ++ name)) ≡ length name
     → length cut ≡ length added
 length_back added [] cut some e = absurd (some refl)
@@ -47,32 +35,6 @@ listed_as IsHidden (x ∷ xs) some e =
     let same : 0 ∷ [] ≡ x ∷ xs ++ 0 ∷ [] = cc in absurd (omega (arith, ap length same, length-append xs (0 ∷ [])))
 listed_as IsUndecided name some e = absurd (cc)
 
--- a name that lists back is one of which just as much is taken off
-cut_where_back : (rules : List MappingRule) (name added : List ℕ) → All HasNoZero rules → IsName name → name ≢ []
-    → added_prefix Client rules name ≡ Some added → ListsBack rules name → CutsAt rules (added ++ name) (length added)
-cut_where_back rules name added no_zero is some e back =
-    let same = host_is rules name back.becomes added back.passes e in
-    let lists = subst (λ host. server_answer rules (host ++ 0 ∷ []) ≡ Some (name ++ 0 ∷ [])) same back.lists in
-    let one =
-    server_one rules (added ++ name) (host_not_empty added name some)
-    (host_no_zero rules name added no_zero is e) in
-    let (shown, listed, long) = listed_as (host_answer rules (added ++ name)) name some (sym one ∙ lists) in
-    let by = listed_cut rules (added ++ name) shown listed in
-    (by.cut, by.is, length_back added name by.cut some (sym (ap length by.name_is) ∙ long))
-
--- ---- the test
-
-lost_where : (rules : List MappingRule) (name added : List ℕ) → All HasNoZero rules → IsName name → name ≢ []
-    → added_prefix Client rules name ≡ Some added → (CutsAt rules (added ++ name) (length added) → ⊥)
-    → IsLost rules name
-lost_where rules name added no_zero is some e fails = record {
-  is_name = is;
-  not_empty = some;
-  host = added ++ name;
-  passes = added_passes rules name added e;
-  not_back = λ back. fails (cut_where_back rules name added no_zero is some e back);
-}
-
 pub longer : (added name : List ℕ) → name ≢ [] → length added < length (added ++ name)
 longer added [] some = absurd (some refl)
 longer added (x ∷ xs) some = omega (arith, length-append added (x ∷ xs))
@@ -80,17 +42,47 @@ longer added (x ∷ xs) some = omega (arith, length-append added (x ∷ xs))
 some_longer : (added name : List ℕ) → length added < length (added ++ name) → name ≢ []
 some_longer added name more none = omega (arith, length-append added name, ap length none)
 
-pub lost_as : (rules : List MappingRule) (name added : List ℕ) → All HasNoZero rules → IsName name
-    → added_prefix Client rules name ≡ Some added
-    → IsLost rules name
-    ↔ ((length added < length (added ++ name)) × (¬ CutsAt rules (added ++ name) (length added)))
-lost_as rules name added no_zero is e = (
-  λ lost. (
-    longer added name lost.not_empty,
-    λ cuts. lost.not_back (back_where_cut rules name added no_zero is lost.not_empty e cuts),
-  ),
-  λ (more, fails). lost_where rules name added no_zero is (some_longer added name more) e fails,
-)
+module _ (rules : List MappingRule) (name added : List ℕ) (no_zero : All HasNoZero rules) (is : IsName name)
+    (e : added_prefix Client rules name ≡ Some added) where
+  -- a name of which just as much is taken off as was put before it lists back
+  back_where_cut : name ≢ [] → CutsAt rules (added ++ name) (length added) → ListsBack rules name
+  back_where_cut some (cut, at, long) =
+      let listed = cut_listed rules (added ++ name) cut at in
+      let rest : drop (length cut) (added ++ name) ≡ name = drop_at added name (length cut) (sym long) in
+      record {
+        becomes = added ++ name;
+        passes = added_passes rules name added e;
+        lists = grind (arith, server_one, host_not_empty, host_no_zero, answer_to_one);
+      }
+
+  -- a name that lists back is one of which just as much is taken off
+  cut_where_back : name ≢ [] → ListsBack rules name → CutsAt rules (added ++ name) (length added)
+  cut_where_back some back =
+      let same = host_is rules name back.becomes added back.passes e in
+      let lists = subst (λ host. server_answer rules (host ++ 0 ∷ []) ≡ Some (name ++ 0 ∷ [])) same back.lists in
+      let one =
+      server_one rules (added ++ name) (host_not_empty added name some) (host_no_zero rules name added no_zero is e) in
+      let (shown, listed, long) = listed_as (host_answer rules (added ++ name)) name some (sym one ∙ lists) in
+      let by = listed_cut rules (added ++ name) shown listed in
+      (by.cut, by.is, length_back added name by.cut some (sym (ap length by.name_is) ∙ long))
+
+  -- ---- the test
+
+  lost_where : name ≢ [] → (CutsAt rules (added ++ name) (length added) → ⊥) → IsLost rules name
+  lost_where some fails = record {
+    is_name = is;
+    not_empty = some;
+    host = added ++ name;
+    passes = added_passes rules name added e;
+    not_back = λ back. fails (cut_where_back some back);
+  }
+
+  pub lost_as : IsLost rules name
+      ↔ ((length added < length (added ++ name)) × (¬ CutsAt rules (added ++ name) (length added)))
+  lost_as = (
+    λ lost. (longer added name lost.not_empty, λ cuts. lost.not_back (back_where_cut lost.not_empty cuts)),
+    λ (more, fails). lost_where (some_longer added name more) fails,
+  )
 
 -- ---- sound
 
@@ -111,9 +103,6 @@ pub sound_where_none : (rules : List MappingRule) → All HasNoZero rules → ((
 sound_where_none rules no_zero none name host is some passes =
     let by = passes_added rules name host passes in
     elim (cuts_or by.added (added_prefix Server rules (by.added ++ name))) [
-      | inl cuts ↦ back_where_cut rules name by.added no_zero is some by.is cuts
-      | inr fails ↦ absurd (none name (lost_where rules name by.added no_zero is some by.is fails))
+      | inl cuts ↦ back_where_cut rules name by.added no_zero is by.is some cuts
+      | inr fails ↦ absurd (none name (lost_where rules name by.added no_zero is by.is some fails))
     ]
-
-pub none_where_sound : (rules : List MappingRule) → Sound rules → (name : List ℕ) → ¬ IsLost rules name
-none_where_sound rules sound name lost = grind arith

@@ -7,29 +7,15 @@ use Rattle.std.specs.List.{slice_get}
 use Rattle.std.specs.List.Sorted.{IsPartitionedBy, IsPartitionPoint}
 use Rattle.std.specs.Ordering.{nat_cmp, is_lt, is_le, ordering_index, ordering_reverse, ordering_then}
 use Rattle.std.specs.declared.cmp.Ordering.{Ordering}
-use Rattle.std.specs.declared.cmp.Ordering.TheVariants.{Less, Greater}
-use Rattle.std.proofs.lemmas.Bool.{cases_Bool, false≢true, true≢false}
+use Rattle.std.specs.declared.cmp.Ordering.TheVariants.{Less}
+use Rattle.std.proofs.lemmas.Bool.{false≢true}
 use Rattle.std.proofs.lemmas.Cmp.{ranked, by_ranked, nat_cmp_total, tied_itself}
 use Rattle.std.proofs.lemmas.List.Sorted.{ranks_by, sorted_far, searchable_from_sorted}
 use Rattle.std.proofs.lemmas.Option.{slice_get-get_or, slice_get_within, get_or_from_slice_get}
 use Rattle.virtiofs_map.specs.Audit.{IsBefore}
-use Rattle.virtiofs_map.specs.GatheredParts.{AreOrdered, CountsBefore}
+use Rattle.virtiofs_map.specs.AuditParts.{AreOrdered, CountsBefore}
 use Rattle.virtiofs_map.specs.Names.{begins}
 use Rattle.virtiofs_map.proofs.audit.AuditLeastLemmas.{is_lt-true, is_lt-false}
-
--- ---- two names
-
--- one of two names does not come after the other
-reversed : (o p : Ordering) → o ≡ ordering_reverse p → o ≡ Greater → p ≡ Less
-reversed o p e g = grind arith
-
-not_le : (o : Ordering) → is_le o ≡ false → o ≡ Greater
-not_le o e = grind (arith, true≢false)
-
-pub after_from_fails : (name bytes : List ℕ) → is_le (slice_cmp nat_cmp name bytes) ≡ false → IsBefore bytes name
-after_from_fails name bytes e =
-    reversed (slice_cmp nat_cmp name bytes) (slice_cmp nat_cmp bytes name) (nat_list_cmp_total.antisymm name bytes)
-    (not_le (slice_cmp nat_cmp name bytes) e)
 
 -- ---- names in order
 
@@ -100,8 +86,11 @@ pub cmp_after : (cut one other : List ℕ) → slice_cmp nat_cmp (cut ++ one) (c
 cmp_after [] one other = refl
 cmp_after (x ∷ cut) one other = level x (slice_cmp nat_cmp (cut ++ one) (cut ++ other)) ∙ cmp_after cut one other
 
+turned : (o p : Ordering) → o ≡ ordering_reverse p → (p ≡ Less → ⊥) → is_le o ≡ true
+turned o p e not = grind arith
+
 -- what does not come before a name does not come before what that does not come before
 pub not_before_trans : (one other more : List ℕ) → ¬ IsBefore one other → ¬ IsBefore other more → ¬ IsBefore one more
 not_before_trans one other more first then = λ less.
     then (le_lt_trans nat_list_cmp_total other one more
-    (grind (arith, cases_Bool, after_from_fails)) less)
+    (turned _ _ (nat_list_cmp_total.antisymm other one) first) less)

@@ -6,9 +6,10 @@ use Rattle.std.specs.Bool.{IsTrue}
 use Rattle.std.proofs.lemmas.Bool.{false≢true, true≢false}
 use Rattle.std.specs.List.{All}
 use Rattle.std.proofs.lemmas.List.Elements.{All-append, All-from_get_or}
+use Rattle.virtiofs_map.specs.Audit.{Within}
 use Rattle.virtiofs_map.specs.AuditParts.{added_prefix}
 use Rattle.virtiofs_map.specs.MapRule.{IsName}
-use Rattle.virtiofs_map.specs.Names.{Passes, client_answer}
+use Rattle.virtiofs_map.specs.Names.{begins, Passes, client_answer}
 use Rattle.virtiofs_map.specs.Rule.{MappingRule, HasNoZero}
 use Rattle.virtiofs_map.specs.declared.xattrmap.scopes.Side.TheVariants.{Client}
 use Rattle.virtiofs_map.proofs.AuditAddedLemmas.{passes_added, added_passes, added_no_zero}
@@ -29,6 +30,11 @@ not_iff true P Q (to, from) (fails, others) = (
   λ q. absurd (others q (to refl)),
 )
 not_iff false P Q (to, from) (fails, others) = (λ yes. fails (λ p. false≢true (from p)), λ q. refl)
+
+-- of a name that begins so, the test is one whether it is bad
+pub within_iff : (test : Bool) {beginning : List ℕ} (bad : List ℕ → Type 0) (name : List ℕ) → begins beginning name ≡ true
+    → IsTrue test ↔ bad name → IsTrue test ↔ Within beginning bad name
+within_iff test bad name front (to, from) = (λ yes. record { is_bad = to yes; front = front }, λ is. from is.is_bad)
 
 -- what a name becomes
 pub host_is : (rules : List MappingRule) (name host added : List ℕ) → client_answer rules name ≡ Passes host

@@ -6,16 +6,14 @@ use Rattle.std.proofs.lemmas.Bool.{and_parts, and_from}
 use Rattle.std.proofs.lemmas.List.{append_assoc, append_cancel_right, drop_at, length-append, take-append-drop}
 use Rattle.std.proofs.lemmas.List.Elements.{All-drop}
 use Rattle.virtiofs_map.specs.Audit.{Reached, SharesNoName, IsShared}
-use Rattle.virtiofs_map.specs.AuditParts.{added_prefix, PutsAt}
-use Rattle.virtiofs_map.specs.FirstRule.{acts}
-use Rattle.virtiofs_map.specs.GatheredParts.{added_prefix_of, host_pattern}
+use Rattle.virtiofs_map.specs.AuditParts.{added_prefix, PutsAt, added_prefix_of, part_of, parts}
 use Rattle.virtiofs_map.specs.MapRule.{IsName}
 use Rattle.virtiofs_map.specs.Names.{begins, Passes, client_answer}
 use Rattle.virtiofs_map.specs.Rule.{MappingRule}
-use Rattle.virtiofs_map.specs.declared.xattrmap.scopes.Side.{Side}
+use Rattle.virtiofs_map.specs.declared.audit.gathered.Part.TheVariants.{Passed}
 use Rattle.virtiofs_map.specs.declared.xattrmap.scopes.Side.TheVariants.{Client}
 use Rattle.virtiofs_map.proofs.AuditAlikeLemmas.{front_is_name, begins-append_both, begins_less, decides_front}
-use Rattle.virtiofs_map.proofs.AuditAlikeLemmas.{decides_among}
+use Rattle.virtiofs_map.proofs.AuditAlikeLemmas.{decides_among, part_among}
 use Rattle.virtiofs_map.proofs.AuditAddedLemmas.{passes_added, added_passes, adds_by}
 use Rattle.virtiofs_map.proofs.audit.AuditPassLemmas.{host_is}
 use Rattle.virtiofs_map.proofs.BeginsLemmas.{begins_split, begins-append}
@@ -52,15 +50,10 @@ reached_at rules host is some = (
       )),
 )
 
--- no pattern of the rules for host names is the host name
-abbrev pub NoPattern : Side → List MappingRule → List ℕ → Type 0
-NoPattern side rules host =
-    (rule : MappingRule) → Contains rules rule → acts side rule ≡ true → host_pattern side rule ≢ Some host
-
 -- what is reached, and is no pattern, is reached without its last byte
 pub reached_less : (rules : List MappingRule) (front : List ℕ) (last : ℕ) → front ≢ []
-    → NoPattern Client rules (front ++ last ∷ []) → Reached rules (front ++ last ∷ []) → Reached rules front
-reached_less rules front last some others reached =
+    → ¬ Contains (parts Passed rules) (front ++ last ∷ []) → Reached rules (front ++ last ∷ []) → Reached rules front
+reached_less rules front last some none reached =
     let host = front ++ last ∷ [] in
     let by = passes_added rules reached.name host reached.passes in
     let added = by.added in
@@ -72,7 +65,8 @@ reached_less rules front last some others reached =
     ap (begins (added ++ rule.key)) by.host_is ∙ begins-append_both added rule.key reached.name ∙ fit.1 in
     let less : begins (added ++ rule.key) front ≡ true =
     sym (begins_less (added ++ rule.key) front last
-    (λ same. others rule among fit.0 (ap (option_map (λ a. a ++ rule.key)) adds.puts ∙ ap Some same))) ∙ begun in
+    (λ same. none (part_among (part_of Passed) rules rule host among
+    (rw fit.0 (ap (option_map (λ a. a ++ rule.key)) adds.puts ∙ ap Some same))))) ∙ begun in
     let rest = drop (length (added ++ rule.key)) front in
     let name = rule.key ++ rest in
     let left : front ≡ added ++ name =

@@ -1,6 +1,6 @@
 -- Host names that are listed under a name that does not pass as them, and what the code tests of them.
 use Rattle.std.proofs.Common.{◌≡◌, ◌≢◌, ◌⊎◌, ℕ, true, List, [], length, drop, ◌↔◌}
-use Rattle.std.proofs.Common.{Some, inl, inr, refl, sym, ap, ◌∙◌, arith}
+use Rattle.std.proofs.Common.{Some, inl, inr, refl, sym, ap, ◌∙◌}
 use Rattle.std.specs.Bool.{nat_eq}
 use Rattle.std.specs.Cmp.Lexicographic.{pointwise}
 use Rattle.std.proofs.lemmas.Bool.{cases_Bool, true≢false}
@@ -60,6 +60,3 @@ opens_where_none rules none host name is some listed =
         not_opened = fails;
       }))
     ]
-
-pub none_where_opens : (rules : List MappingRule) → OpensListed rules → (host : List ℕ) → ¬ IsStray rules host
-none_where_opens rules opens host stray = grind arith

@@ -5,12 +5,11 @@ use Rattle.std.specs.List.{slice_get}
 use Rattle.std.proofs.lemmas.Bool.{cases_lt, false≢true}
 use Rattle.std.proofs.lemmas.Option.{same_Some, slice_get-get_or}
 use Rattle.virtiofs_map.specs.Audit.{IsBefore}
-use Rattle.virtiofs_map.specs.AuditParts.{TriedSoFar, Tries, is_first, LedTo, IsLiveRest, IsWhole}
-use Rattle.virtiofs_map.specs.GatheredParts.{AreOrdered, CountsBefore, IsRepeated}
+use Rattle.virtiofs_map.specs.AuditParts.{Handled, TriedSoFar, Tries, is_first, LedTo, IsLiveRest, IsWhole, AreOrdered, CountsBefore, IsRepeated}
 use Rattle.virtiofs_map.specs.Names.{begins, Passes, client_answer}
 use Rattle.virtiofs_map.specs.Rule.{MappingRule}
 use Rattle.virtiofs_map.proofs.BeginsLemmas.{begins_from}
-use Rattle.virtiofs_map.proofs.audit.AuditLeastLemmas.{tries_none, tries_join, tries_fewer, not_first}
+use Rattle.virtiofs_map.proofs.audit.AuditLeastLemmas.{tries_none, tries_both, tries_fewer, not_first}
 use Rattle.virtiofs_map.proofs.audit.AuditOrderLemmas.{place_of, in_order, between, front_not_before, cmp_after}
 use Rattle.virtiofs_map.proofs.audit.AuditOrderLemmas.{not_before_trans}
 
@@ -49,7 +48,7 @@ pub tries_next : {Bad : List ℕ → Type 0} {xs : List (List ℕ)} {leads : Lis
     → Tries Bad (LedBelow xs n leads) m a b → Tries Bad (leads x) k b c → m + k ≤ most
     → Tries Bad (LedBelow xs (n + 1) leads) most a c
 tries_next {xs = xs} {leads = leads} {n = n} {x = x} {element = element} l e same first then few =
-    tries_join first then
+    tries_fewer (tries_both first then)
     (λ name below. led_more xs n leads name x (slice_get-get_or xs n element l ∙ ap Some (sym e ∙ sym same)) below) few
 
 -- it stands just before it too
@@ -67,6 +66,25 @@ tries_end {xs = xs} l first few =
     (λ name (x, among, led).
     (let (k, within, here) = place_of xs x among in
     record { element = x; place = k; before = omega arith; here = here; led = led })) few
+
+-- the elements from a place on may be left out, if what they lead to was handled
+ends_early : {Bad : List ℕ → Type 0} {xs : List (List ℕ)} {leads : List ℕ → List ℕ → Type 0} {here : List ℕ}
+    {n m most : ℕ} {old now : TriedSoFar} → AreOrdered xs → slice_get xs n ≡ Some here
+    → Tries Bad (LedBelow xs n leads) m old now → m ≤ most
+    → ((other name : List ℕ) → ¬ IsBefore other here → leads other name → Handled Bad now.least name)
+    → Tries Bad (LedTo xs leads) most old now
+ends_early {xs = xs} {here = here} {n = n} ordered is first few handled = record {
+  handled = λ name (other, among, led).
+      (let (k, within, there) = place_of xs other among in
+      elim (cases_lt k n) [
+        | inl less ↦
+            first.handled name (record { element = other; place = k; before = less; here = there; led = led })
+        | inr over ↦ handled other name (in_order xs ordered n k here other over is there) led
+      ]);
+  kept = first.kept;
+  found = first.found;
+  counts = omega (arith, first.counts);
+}
 
 -- ---- what is left of patterns after an added prefix
 
@@ -91,18 +109,11 @@ pub rests_end : {Bad : List ℕ → Type 0} (rules : List MappingRule) {patterns
     → Tries Bad (LedBelow patterns n (IsAfter rules added)) m a b → m ≤ most → Tries Bad (IsLiveRest rules patterns added) most a b
 rests_end rules {patterns = patterns} {added = added} {pattern = pattern} {element = element} {n = n} ordered counts l u e
     same fails first few =
-    tries_fewer first
-    (λ name (other, among, split).
-    (let (k, within, there) = place_of patterns other among in
-    elim (cases_lt k n) [
-      | inl less ↦ record { element = other; place = k; before = less; here = there; led = split }
-      | inr over ↦
-          (let here : slice_get patterns n ≡ Some pattern =
-          slice_get-get_or patterns n element u ∙ ap Some (sym e ∙ sym same) in
-          absurd (false≢true (sym fails
-          ∙ between added pattern other (begins_from added other name split.0) (counts.after n pattern l here)
-          (in_order patterns ordered n k pattern other over here there))))
-    ])) few
+    let here : slice_get patterns n ≡ Some pattern = slice_get-get_or patterns n element u ∙ ap Some (sym e ∙ sym same) in
+    ends_early ordered here first few
+    (λ other name late split bad. absurd
+    (false≢true (sym fails
+    ∙ between added pattern other (begins_from added other name split.0) (counts.after n pattern l here) late)))
 
 -- ---- keys after a cut
 
@@ -115,29 +126,15 @@ pub wholes_end : {Bad : List ℕ → Type 0} {element whole : List ℕ} {keys : 
     → whole ≡ cut ++ element → is_first now.least whole ≡ false
     → Tries Bad (LedBelow keys n (GoesAfter cut)) m old now → m ≤ most → Tries Bad (IsWhole keys cut) most old now
 wholes_end {element = element} {whole = whole} {keys = keys} {n = n} {now = now} cut ordered l e is fails first few =
-    record {
-      handled = λ name (other, among, other_is).
-          (let (k, within, there) = place_of keys other among in
-          elim (cases_lt k n) [
-            | inl less ↦
-                first.handled name (record { element = other; place = k; before = less; here = there; led = other_is })
-            | inr over ↦ λ bad.
-                (let (found, some, late) = not_first now.least whole fails in
-                let here : slice_get keys n ≡ Some element = slice_get-get_or keys n element l ∙ ap Some (sym e) in
-                let after : ¬ IsBefore (cut ++ other) (cut ++ element) =
-                (λ less. in_order keys ordered n k element other over here there
-                (sym (cmp_after cut other element) ∙ less)) in
-                let later : ¬ IsBefore (cut ++ element) found = subst (λ w. ¬ IsBefore w found) is late in (
-                  found,
-                  some,
-                  subst (λ w. ¬ IsBefore w found) (sym other_is)
-                      (not_before_trans (cut ++ other) (cut ++ element) found after later),
-                ))
-          ]);
-      kept = first.kept;
-      found = first.found;
-      counts = omega (arith, first.counts);
-    }
+    ends_early ordered (slice_get-get_or keys n element l ∙ ap Some (sym e)) first few
+    (λ other name late other_is bad.
+    (let (found, some, after) = not_first now.least whole fails in (
+      found,
+      some,
+      subst (λ w. ¬ IsBefore w found) (sym other_is)
+          (not_before_trans (cut ++ other) (cut ++ element) found
+          (λ less. late (sym (cmp_after cut other element) ∙ less)) (subst (λ w. ¬ IsBefore w found) is after)),
+    )))
 
 -- ---- names of one byte
 
@@ -150,7 +147,7 @@ bytes_start tried = tries_none tried (λ name (byte, some, below, is). absurd (o
 pub bytes_next : {Bad : List ℕ → Type 0} {n m most : ℕ} {a b c : TriedSoFar} → Tries Bad (ByteBelow n) m a b
     → Tries Bad (λ one. one ≡ n ∷ []) 1 b c → m + 1 ≤ most → Tries Bad (ByteBelow (n + 1)) most a c
 bytes_next {n = n} first then few =
-    tries_join first then
+    tries_fewer (tries_both first then)
     (λ name (byte, some, below, is). elim (cases_lt byte n) [
       | inl less ↦ inl (byte, some, less, is)
       | inr over ↦ inr (let same : byte ≡ n = omega arith in is ∙ ap (λ x. x ∷ []) same)

@@ -1,6 +1,6 @@
 -- What begins the pattern of a rule, as the path of a node does.
-use Rattle.std.proofs.Common.{◌≡◌, ◌≢◌, ◌⊎◌, ℕ, zero, suc, ◌≤◌, true, List, [], ◌∷◌, length, take, drop, All}
-use Rattle.std.proofs.Common.{Some, inl, inr, refl, sym, ap, ◌∙◌, arith, slice_get, take_at}
+use Rattle.std.proofs.Common.{◌≡◌, ◌≢◌, ◌⊎◌, ℕ, zero, suc, ◌≤◌, true, List, [], ◌∷◌, length, take, drop, All, Contains}
+use Rattle.std.proofs.Common.{inl, inr, refl, sym, ap, ◌∙◌, arith, take_at}
 use Rattle.std.proofs.lemmas.List.Elements.{All-contains, All-nil, All-same, All-take}
 use Rattle.virtiofs_map.specs.NodeParts.{BeginsPattern}
 use Rattle.virtiofs_map.specs.FirstRule.{acts, pattern, longest}
@@ -9,11 +9,13 @@ use Rattle.virtiofs_map.specs.declared.xattrmap.scopes.Side.{Side}
 use Rattle.virtiofs_map.proofs.BeginsLemmas.{begins_split}
 
 -- a pattern of a rule is no longer than the longest
-pub no_longer : (side : Side) (rules : List MappingRule) (at : ℕ) (rule : MappingRule) → slice_get rules at ≡ Some rule
+pub no_longer : (side : Side) (rules : List MappingRule) (rule : MappingRule) → Contains rules rule
     → acts side rule ≡ true → length (pattern side rule) ≤ longest side rules
-no_longer side [] at rule e acting = absurd cc
-no_longer side (r ∷ rules) zero rule e acting = grind arith
-no_longer side (r ∷ rules) (suc at) rule e acting = grind (arith, no_longer side rules at rule e acting)
+no_longer side [] rule (at, below, is) acting = absurd (omega arith)
+no_longer side (r ∷ rules) rule (zero, below, is) acting = grind arith
+no_longer side (r ∷ rules) rule (suc at, below, is) acting =
+    let later = no_longer side rules rule (at, omega arith, is) acting in
+    grind arith
 
 -- a pattern of a rule without zeros has none
 pub pattern_no_zero : (side : Side) (rule : MappingRule) → HasNoZero rule → All (λ byte. byte ≢ 0) (pattern side rule)

@@ -2,12 +2,11 @@
 
 ghost use Rattle.std.specs.Prelude.{List, IfOk};
 ghost use Rattle.virtiofs_map.specs.Audit.{AnswersLeast, HasFault, Within};
-ghost use Rattle.virtiofs_map.specs.AuditParts.{other_rules};
 ghost use Rattle.virtiofs_map.specs.NamesImage.{IsMapOf};
 ghost use Rattle.virtiofs_map.specs.Rule.{MappingRule};
 
 use crate::audit::answer::Audit;
-use crate::audit::candidates::{least_guest_name, least_host_name};
+use crate::audit::candidates::least_bad_name;
 use crate::audit::question::Question;
 use crate::steps::Steps;
 use crate::xattrmap::{XattrMapRef, XattrName};
@@ -27,17 +26,6 @@ pub enum NameFault {
     /// A name of the first guest passes as one that the second guest reaches too:
     /// [`shares_no_name`](crate::audit::shares_no_name).
     Shared,
-}
-
-/// The map whose rules say what becomes of names of the host.
-fn other_of<'m>(fault: NameFault, r: XattrMapRef<'m>, q: XattrMapRef<'m>) -> XattrMapRef<'m>
-    ensures { (rules others : List MappingRule) → IsMapOf rules r.entry → IsMapOf others q.entry
-        → IsMapOf (other_rules fault rules others) result }
-{
-    match fault {
-        NameFault::Lost | NameFault::Stray => r,
-        NameFault::Seen | NameFault::Shared => q,
-    }
 }
 
 /// Whether no name that begins with these bytes has the fault; else `No` has the least. The fault is
@@ -65,11 +53,8 @@ pub fn ask<A: Allocator + Copy>(
     let question = Question {
         fault,
         map: r,
-        other: other_of(fault, r, q),
+        other: q,
         beginning,
     };
-    match fault {
-        NameFault::Stray => least_host_name(alloc, &question),
-        _ => least_guest_name(alloc, &question, &mut Steps::new()),
-    }
+    least_bad_name(alloc, &question, &mut Steps::new())
 }

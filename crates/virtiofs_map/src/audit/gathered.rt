@@ -1,9 +1,8 @@
 //! What the rules of a map have of one kind, such as their keys, in the order of the bytes.
 
 ghost use Rattle.std.specs.List.Sorted.{IsPermutation};
-ghost use Rattle.std.specs.Prelude.{◌≡◌, ◌≢◌, List, All, IfOk, Some};
-ghost use Rattle.virtiofs_map.specs.AuditParts.{parts};
-ghost use Rattle.virtiofs_map.specs.GatheredParts.{AreOrdered, part_of, host_pattern};
+ghost use Rattle.std.specs.Prelude.{◌≡◌, ◌≢◌, ◌++◌, List, All, IfOk, Some};
+ghost use Rattle.virtiofs_map.specs.AuditParts.{AreOrdered, part_of, parts};
 ghost use Rattle.virtiofs_map.specs.NamesImage.{IsMapOf};
 ghost use Rattle.virtiofs_map.specs.Rule.{HasNoZero, MappingRule};
 ghost use Rattle.virtiofs_map.specs.RuleParts.{rule_meant};
@@ -15,48 +14,29 @@ use std::alloc::{AllocError, Allocator};
 /// What an audit takes from a rule.
 #[derive(Clone, Copy)]
 pub(crate) enum Part {
-    /// The key of a rule for the client.
-    Key,
+    /// The pattern of a rule for that side.
+    Pattern(Side),
     /// What a rule for that side puts before a name or takes off it.
     Added(Side),
-    /// What a name of the host begins with by a rule for that side.
-    Host(Side),
+    /// What each name of the host begins with that passes by a rule for the client: what the rule
+    /// puts before a name, and then its key.
+    Passed,
 }
 
-/// The name of these bytes, in memory of its own; `None` where one of them is zero.
-fn copied<A: Allocator + Copy>(
+/// A name of these bytes, one after the other, in memory of its own; `None` where one of them is
+/// zero.
+fn joined<A: Allocator + Copy>(
     alloc: A,
-    bytes: &[u8],
+    added: &[u8],
+    rest: &[u8],
 ) -> Result<Option<XattrNameBuf<A>>, AllocError>
-    ensures { IfOk result (λ found. All (λ byte. byte ≢ 0) bytes.now → found ≡ Some bytes.now) }
+    ensures { IfOk result (λ found. All (λ byte. byte ≢ 0) added.now
+        → All (λ byte. byte ≢ 0) rest.now → found ≡ Some (added.now ++ rest.now)) }
 {
-    match XattrName::new(bytes) {
-        Some(name) => Ok(Some(XattrNameBuf::copy_of(alloc, name.bytes)?)),
-        None => Ok(None),
-    }
-}
-
-/// What a name of the host begins with: for the server the prepend, and for the client what the rule
-/// puts before a name, and then its key. `None` where the rule lets no name of the client through.
-fn host_pattern<A: Allocator + Copy>(
-    alloc: A,
-    rule: RuleRef<'_>,
-    side: Side,
-) -> Result<Option<XattrNameBuf<A>>, AllocError>
-    ensures { IfOk result (λ found. HasNoZero (rule_meant rule.entry)
-        → found ≡ host_pattern side (rule_meant rule.entry)) }
-{
-    let added = match side {
-        Side::Server => return copied(alloc, rule.prepend),
-        Side::Client => rule.added_prefix(),
-    };
-    let Some(bytes) = added else {
+    let (Some(rest), Some(added)) = (XattrName::new(rest), XattrName::new(added)) else {
         return Ok(None);
     };
-    let (Some(key), Some(added)) = (XattrName::new(rule.key), XattrName::new(bytes)) else {
-        return Ok(None);
-    };
-    Ok(Some(key.prefixed_with(alloc, added)?))
+    Ok(Some(rest.prefixed_with(alloc, added)?))
 }
 
 /// That part of a rule, where it has one.
@@ -69,21 +49,18 @@ fn part_of<A: Allocator + Copy>(
         → found ≡ part_of part (rule_meant rule.entry)) }
 {
     let side = match part {
-        Part::Key => Side::Client,
-        Part::Added(side) | Part::Host(side) => side,
+        Part::Pattern(side) | Part::Added(side) => side,
+        Part::Passed => Side::Client,
     };
     if !rule.acts_on(side) {
         return Ok(None);
     }
-    let found = match part {
-        Part::Key => Some(rule.key),
-        Part::Added(_) => rule.added_prefix(),
-        Part::Host(side) => return host_pattern(alloc, rule, side),
-    };
-    let Some(bytes) = found else {
-        return Ok(None);
-    };
-    copied(alloc, bytes)
+    match (part, rule.added_prefix()) {
+        (Part::Pattern(side), _) => joined(alloc, &[], rule.pattern(side)),
+        (Part::Added(_), Some(added)) => joined(alloc, added, &[]),
+        (Part::Passed, Some(added)) => joined(alloc, added, rule.key),
+        (_, None) => Ok(None),
+    }
 }
 
 /// That part of each rule which has one, in the order of the bytes. The patterns of a map stand one

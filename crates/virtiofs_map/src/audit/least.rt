@@ -1,9 +1,7 @@
 //! The least bad name of those that were tried.
 
-ghost use Rattle.std.specs.Prelude.{◌≡◌, OnOk, List};
-ghost use Rattle.virtiofs_map.specs.AuditParts.{IsAskedOf, IsBad, Tries, is_first, none_tried};
-ghost use Rattle.virtiofs_map.specs.AuditParts.{told};
-ghost use Rattle.virtiofs_map.specs.Rule.{MappingRule};
+ghost use Rattle.std.specs.Prelude.{◌≡◌, OnOk};
+ghost use Rattle.virtiofs_map.specs.AuditParts.{AllTried, is_first, none_tried, told};
 ghost use Rattle.virtiofs_map.specs.Steps.{count_after};
 
 use crate::audit::answer::Audit;
@@ -49,9 +47,8 @@ impl<A: Allocator + Copy> Tried<A> {
         question: &Question<'_>,
         name: XattrName<'_>,
     ) -> Result<(), AllocError>
-        ensures tried { OnOk result ((rules others : List MappingRule)
-            → IsAskedOf question.now rules others → Tries (IsBad question.now rules others)
-            (λ one. one ≡ name.entry.bytes.now) 1 self.old self.new) }
+        ensures tried { OnOk result (AllTried question.now (λ _ one. one ≡ name.entry.bytes.now) 1
+            self.old self.new) }
         ensures counted { OnOk result (self.new.count ≡ count_after self.old.count 1) }
     {
         self.steps.tick();
@@ -66,9 +63,8 @@ impl<A: Allocator + Copy> Tried<A> {
         question: &Question<'_>,
         name: XattrName<'_>,
     ) -> Result<(), AllocError>
-        ensures tried { OnOk result ((rules others : List MappingRule)
-            → IsAskedOf question.now rules others → Tries (IsBad question.now rules others)
-            (λ one. one ≡ name.entry.bytes.now) 0 self.old self.new) }
+        ensures tried { OnOk result (AllTried question.now (λ _ one. one ≡ name.entry.bytes.now) 0
+            self.old self.new) }
         ensures uncounted { OnOk result (self.new.count ≡ self.old.count) }
     {
         if !self.is_first(name) {

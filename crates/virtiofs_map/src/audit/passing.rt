@@ -3,8 +3,7 @@
 ghost use Rattle.std.specs.Prelude.{◌≡◌, ◌++◌, ◌↔◌, ◌≤◌, ℕ, List, Some, None, MatchOption, OnOk, IsTrue};
 ghost use Rattle.std.specs.Prelude.{length};
 ghost use Rattle.virtiofs_map.specs.Audit.{IsStray};
-ghost use Rattle.virtiofs_map.specs.AuditParts.{CutsAt, IsCut, PutsAt, added_prefix, is_hidden};
-ghost use Rattle.virtiofs_map.specs.GatheredParts.{added_prefix_of};
+ghost use Rattle.virtiofs_map.specs.AuditParts.{CutsAt, IsCut, PutsAt, added_prefix, is_hidden, added_prefix_of};
 ghost use Rattle.virtiofs_map.specs.MapRule.{IsName};
 ghost use Rattle.virtiofs_map.specs.NamesImage.{IsMapOf};
 ghost use Rattle.virtiofs_map.specs.Rule.{MappingRule};

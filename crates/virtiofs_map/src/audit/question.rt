@@ -1,16 +1,17 @@
 //! A question about names.
 
+ghost use Rattle.std.specs.List.Sorted.{IsPermutation};
 ghost use Rattle.std.specs.Prelude.{◌≡◌, ◌++◌, ◌↔◌, ◌≢◌, All, ℕ, List, IfOk, IsFalse, IsTrue};
-ghost use Rattle.virtiofs_map.specs.Audit.{HasFault};
-ghost use Rattle.virtiofs_map.specs.AuditParts.{FailsAs, IsAskedOf, IsBad, side_of};
+ghost use Rattle.virtiofs_map.specs.AuditParts.{FailsAs, IsAskedOf, IsBad, ends_of, side_of, AreOrdered};
 ghost use Rattle.virtiofs_map.specs.MapRule.{IsName};
 ghost use Rattle.virtiofs_map.specs.Rule.{MappingRule};
 
 use crate::audit::asking::NameFault;
+use crate::audit::gathered::{Part, gathered};
 use crate::audit::passing::{
     added_prefix, is_cut_at, is_hidden, is_reached, is_stray, put_together,
 };
-use crate::xattrmap::{Side, XattrMapRef, XattrName};
+use crate::xattrmap::{Side, XattrMapRef, XattrName, XattrNameBuf};
 use std::alloc::{AllocError, Allocator};
 
 /// What an audit asks: which names that begin with these bytes have the fault.
@@ -19,20 +20,38 @@ pub(crate) struct Question<'m> {
     pub(crate) fault: NameFault,
     /// The map under which names may have the fault.
     pub(crate) map: XattrMapRef<'m>,
-    /// The map whose rules say what becomes of names of the host: for `Seen` and `Shared` that of
-    /// the other guest, else the same one.
+    /// The map of the other guest. It counts for `Seen` and `Shared`.
     pub(crate) other: XattrMapRef<'m>,
     pub(crate) beginning: XattrName<'m>,
 }
 
 impl Question<'_> {
-    /// The side on which the patterns of the other map for names of the host count.
+    /// The side whose names may have the fault.
     pub(crate) fn side(&self) -> Side
         ensures { result ≡ side_of self.now.fault }
     {
         match self.fault {
-            NameFault::Shared => Side::Client,
-            _ => Side::Server,
+            NameFault::Stray => Side::Server,
+            _ => Side::Client,
+        }
+    }
+
+    /// What names of the other side begin with, in the order of the bytes: two names that begin with
+    /// the same of these fare alike there.
+    pub(crate) fn ends<A: Allocator + Copy>(
+        &self,
+        alloc: A,
+    ) -> Result<Vec<XattrNameBuf<A>, A>, AllocError>
+        ensures parts { IfOk result (λ names. (rules others : List MappingRule)
+            → IsAskedOf self.now rules others
+            → IsPermutation (ends_of self.now.fault rules others) names.items) }
+        ensures ordered { IfOk result (λ names. AreOrdered names.items) }
+    {
+        match self.fault {
+            NameFault::Lost => gathered(alloc, self.map, Part::Pattern(Side::Server)),
+            NameFault::Stray => gathered(alloc, self.map, Part::Pattern(Side::Client)),
+            NameFault::Seen => gathered(alloc, self.other, Part::Pattern(Side::Server)),
+            NameFault::Shared => gathered(alloc, self.other, Part::Passed),
         }
     }
 
@@ -54,27 +73,7 @@ impl Question<'_> {
         }
     }
 
-    /// Whether the name has the fault. `room` is where a name of the host is put together.
-    fn has_fault<A: Allocator>(
-        &self,
-        room: &mut Vec<u8, A>,
-        name: &[u8],
-    ) -> Result<bool, AllocError>
-        ensures { IfOk result (λ answer. (rules others : List MappingRule)
-            → IsAskedOf self.now rules others → IsName name.now
-            → IsTrue answer ↔ HasFault self.now.fault rules others name.now) }
-    {
-        if let NameFault::Stray = self.fault {
-            return Ok(is_stray(self.map, name));
-        }
-        let Some(added) = added_prefix(self.map, Side::Client, name) else {
-            return Ok(false);
-        };
-        put_together(room, added, name)?;
-        Ok(self.fails_as(room.as_slice(), added.len()))
-    }
-
-    /// Whether the name is one that is asked for.
+    /// Whether the name is one that is asked for. `room` is where a name of the host is put together.
     pub(crate) fn is_bad<A: Allocator>(
         &self,
         room: &mut Vec<u8, A>,
@@ -88,7 +87,14 @@ impl Question<'_> {
         if !name.starts_with(self.beginning.bytes) {
             return Ok(false);
         }
-        self.has_fault(room, name)
+        if let NameFault::Stray = self.fault {
+            return Ok(is_stray(self.map, name));
+        }
+        let Some(added) = added_prefix(self.map, Side::Client, name) else {
+            return Ok(false);
+        };
+        put_together(room, added, name)?;
+        Ok(self.fails_as(room.as_slice(), added.len()))
     }
 
     /// Whether the question may be about a name that begins with these bytes.

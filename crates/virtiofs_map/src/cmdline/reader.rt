@@ -1,14 +1,13 @@
 //! How the text of a specification is read.
-ghost use Rattle.std.specs.Prelude.{◌≡◌, ◌≢◌, [], ◌∷◌, MatchResult, IfOk, IfErr, IfSome, IfNone, string_bytes};
+ghost use Rattle.std.specs.Prelude.{◌≡◌, ◌≢◌, ℕ, [], ◌∷◌, MatchResult, IfOk, IfErr, IfSome, IfNone, string_bytes};
 ghost use Rattle.std.specs.List.{AllZip};
 ghost use Rattle.std.specs.Str.{chars};
 ghost use Rattle.virtiofs_map.specs.Numeral.{IsNumeral};
 ghost use Rattle.virtiofs_map.specs.Refusal.{IsOutOfMemory, OutOfMemoryOr};
 ghost use Rattle.virtiofs_map.specs.Separator.{split_at_each};
-ghost use Rattle.virtiofs_map.specs.SpecificationParts.{IsLoweredCut, IsFieldFault, IsFieldsFault, IsCountFault};
-ghost use Rattle.virtiofs_map.specs.SpecificationParts.{IsWordFault};
 ghost use Rattle.virtiofs_map.specs.SpecificationText.{is_word_character, word_of, numbers_of, HasNoSeparator, Says};
-ghost use Rattle.virtiofs_map.specs.SpecificationText.{SpecificationFault, HasSpecificationFault};
+ghost use Rattle.virtiofs_map.specs.SpecificationText.{HasParts, IsFieldsFault, IsCountFault, IsWordFault};
+ghost use Rattle.virtiofs_map.specs.SpecificationText.{SpecificationFault, InvalidValue, HasSpecificationFault};
 ghost use Rattle.virtiofs_map.specs.SpecificationText.{specification_fault_of, IsExplained};
 ghost use Rattle.virtiofs_map.specs.declared.cmdline.IdMap.{IdMap as Specification};
 ghost use Rattle.virtiofs_map.specs.declared.cmdline.IdMap.TheVariants.{Bidirectional, ForbidGuest};
@@ -39,8 +38,8 @@ fn is_word_character(c: char) -> bool
 fn cut_prefix<A: Allocator>(alloc: A, text: &str) -> Result<Option<Cut<'_, A>>, AllocError>
     ensures none { IfOk result (λ o. IfNone o (HasNoSeparator (chars text.now))) }
     ensures cut { IfOk result (λ o. IfSome o (λ cut.
-        IsLoweredCut (chars text.now)
-        (chars (string_bytes cut.word)) cut.separator (chars cut.rest.now))) }
+        HasParts (chars text.now) (chars (string_bytes cut.word))
+        (split_at_each cut.separator (chars cut.rest.now)))) }
 {
     let mut chars = text.chars();
     let mut word = String::new(alloc);
@@ -62,7 +61,9 @@ fn cut_prefix<A: Allocator>(alloc: A, text: &str) -> Result<Option<Cut<'_, A>>, 
 fn read_field<A: Allocator>(alloc: A, field: &str) -> Result<u32, IdMapError<A>>
     ensures answer { MatchResult result
         (λ value. IsNumeral (chars field.now) value)
-        (λ e. OutOfMemoryOr (specification_fault_of e) (IsFieldFault (chars field.now))) }
+        (λ e. OutOfMemoryOr (specification_fault_of e) (λ fault.
+        (fault ≡ InvalidValue (chars field.now))
+        × ((value : ℕ) → ¬ IsNumeral (chars field.now) value))) }
     ensures explained { IfErr result IsExplained }
 {
     match number(field) {
@@ -136,7 +137,7 @@ fn one_way<A: Allocator>(word: String<A>, numbers: &[u32]) -> Result<IdMap, IdMa
     ensures word { IfOk result (λ spec. string_bytes word ≡ word_of spec) }
     ensures numbers { IfOk result (λ spec. numbers.now ≡ numbers_of spec) }
     ensures refused { IfErr result (λ e. OutOfMemoryOr (specification_fault_of e)
-        (IsWordFault (string_bytes word) numbers.now)) }
+        (IsWordFault (chars (string_bytes word)) numbers.now)) }
     ensures explained { IfErr result IsExplained }
 {
     match word.as_str() {
@@ -181,7 +182,7 @@ fn specification<A: Allocator>(word: String<A>, numbers: &[u32]) -> Result<IdMap
     ensures word { IfOk result (λ spec. string_bytes word ≡ word_of spec) }
     ensures numbers { IfOk result (λ spec. numbers.now ≡ numbers_of spec) }
     ensures refused { IfErr result (λ e. OutOfMemoryOr (specification_fault_of e)
-        (IsWordFault (string_bytes word) numbers.now)) }
+        (IsWordFault (chars (string_bytes word)) numbers.now)) }
     ensures explained { IfErr result IsExplained }
 {
     match word.as_str() {

@@ -1,7 +1,7 @@
 //! The three numbers of a range, which are read alike for users and groups.
 ghost use Rattle.std.specs.Prelude.{◌≡◌, ◌≢◌, [], ◌∷◌, length, IfSome, IfNone, IfOk, IfErr};
 ghost use Rattle.std.specs.Str.{chars};
-ghost use Rattle.virtiofs_map.specs.NamespaceText.{SaysNamespace, IsEnclosed, HasNamespaceFault, namespace_fault_of};
+ghost use Rattle.virtiofs_map.specs.NamespaceText.{SaysNamespace, HasFields, HasNamespaceFault, namespace_fault_of};
 ghost use Rattle.virtiofs_map.specs.Separator.{split_at_each};
 
 use super::IdMapError;
@@ -25,7 +25,7 @@ struct Fields<'a> {
 
 /// The delimiter of a text, and what stands between its first and its last one.
 fn enclosed(text: &str) -> Result<(char, &str), IdMapError>
-    ensures found { IfOk result (λ p. IsEnclosed (chars text.now) p.0 (chars p.1.now)) }
+    ensures found { IfOk result (λ p. HasFields (chars text.now) (split_at_each p.0 (chars p.1.now))) }
     ensures refused { IfErr result (λ e.
         HasNamespaceFault (chars text.now) (namespace_fault_of e)) }
 {

@@ -213,6 +213,7 @@ impl<A: Allocator + Copy> XattrMap<A> {
     /// - `OutOfMemory`: an allocation failed.
     /// - `UnterminatedMapping`: no rule decides one of the names. The whole list is then rejected.
     ///   This error is not returned in any other case.
+    #[tactic(auto, using(crate::proofs::MapRuleLemmas::guests_apart))]
     pub fn map_server_xattrlist(&self, alloc: A, names: Vec<u8, A>) -> Result<Vec<u8, A>, Error<A>>
         ensures answer { IfOk result (λ list.
             server_answer self.now names.items ≡ Some list.items) }

@@ -199,7 +199,7 @@ pub(crate) fn read_rules<A: Allocator + Copy>(
     ensures refused { IfErr result (λ e.
         OutOfMemoryOr (rules_fault_of e) (HasRulesFault (chars text.now))) }
 {
-    let mut rules = Rules::new(alloc);
+    let mut rules = Rules::new(alloc, text.len())?;
     let mut rest = text.trim();
     let mut number = 0;
     while !rest.is_empty() {

@@ -180,6 +180,8 @@ impl<A: Allocator> Rules<A> {
     }
 
     /// The rules, and one more behind them.
+    // (in line, or the rules are copied at each call, and read right after they are written)
+    #[inline(always)]
     pub(crate) fn extended(
         self,
         kind: RuleKind,
@@ -216,14 +218,14 @@ impl<A: Allocator> Rules<A> {
 }
 
 impl<A: Allocator + Copy> Rules<A> {
-    /// No rules.
+    /// No rules, with room for the patterns of a text of that many bytes, and for a few rows.
     #[tactic(auto, unfolding(crate::specs::NamesImageParts::rules_stored))]
-    pub(crate) fn new(alloc: A) -> Rules<A>
-        ensures { result.list ≡ [] }
+    pub(crate) fn new(alloc: A, text_len: usize) -> Result<Rules<A>, AllocError>
+        ensures { IfOk result (λ rules. rules.list ≡ []) }
     {
-        Rules {
-            rows: Vec::new(alloc),
-            bytes: Vec::new(alloc),
-        }
+        Ok(Rules {
+            rows: Vec::with_capacity(alloc, 8 * ROW)?,
+            bytes: Vec::with_capacity(alloc, text_len)?,
+        })
     }
 }

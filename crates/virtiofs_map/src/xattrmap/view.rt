@@ -106,7 +106,8 @@ impl<'m> XattrMapRef<'m> {
     }
 
     /// What the answer of a name says. No rule is read but one whose prepend is wanted.
-    // (two tests of a bit each are faster than the table that a match of four numbers becomes)
+    // (two tests of a bit each are faster than the table that a match of four numbers becomes; with
+    // `Undecided` for a prepend that is not there, every name would take one instruction more)
     #[inline(always)]
     fn decode(self, answer: u64) -> Decision<'m>
         ensures { (side : Side) (rules : List MappingRule) (name : List ℕ)
@@ -120,7 +121,7 @@ impl<'m> XattrMapRef<'m> {
             }
             return match prepend_at(self.bytes, (answer / 4) as usize) {
                 Some(prepend) => Decision::Prefix(prepend),
-                None => Decision::Undecided,
+                None => Decision::NoMap,
             };
         }
         if !is_high {

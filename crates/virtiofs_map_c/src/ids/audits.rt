@@ -1,29 +1,79 @@
 //! Decisions about all ids that arrays of specifications map.
-ghost use Rattle.std.specs.Prelude.{◌≡◌, ◌↔◌, List, IsTrue, true, false};
+ghost use Rattle.std.specs.Prelude.{◌≡◌, ◌↔◌, List, length, IsTrue, IfOk, IfErr, true, false};
 ghost use Rattle.virtiofs_id_audit.specs.IdAudit.{IsAstray, ComesBack, IsShared, IsAlone, GoesInto, Between, ReachedBy, AreIdsApart};
+ghost use Rattle.virtiofs_map.specs.Build.{Accepted};
 ghost use Rattle.virtiofs_map.specs.declared.cmdline.IdMap.{IdMap as Specification};
-ghost use Rattle.virtiofs_map_c.specs.Arrays.{AreSaid, ArrayFault, HasArrayFault};
-ghost use Rattle.virtiofs_map_c.specs.Codes.{ok};
-ghost use Rattle.virtiofs_map_c.specs.Faults.{no_fault};
-ghost use Rattle.virtiofs_map_c.specs.IdsFound.{TellsAudit, TellsReach, IsAstrayTold, IsSharedTold, IsReachTold, IsMeetingTold, HasPairFault, IsWritten};
-ghost use Rattle.virtiofs_map_c.specs.Makes.{TellsFault, MakesOrTells, TellsThis, IsArrayTold, IsAccepted};
+ghost use Rattle.virtiofs_map_c.specs.Arrays.{AreSaid, ArrayFault, HasArrayFault, IsAccepted};
+ghost use Rattle.virtiofs_map_c.specs.Faults.{ok, TellsFault, MakesOrTells, TellsThis, IsArrayTold, code_of, no_fault};
+ghost use Rattle.virtiofs_map_c.specs.Ids.{TellsAudit, TellsReach, IsAstrayTold, IsSharedTold, IsReachTold, IsMeetingTold, HasPairFault, HasFaultAfter};
 
-use super::decided::{IdsFound, alone, apart, come_back, reach};
-use crate::arrays::{Spec, tell};
-use crate::codes::OK;
+use crate::arrays::{Spec, read_all};
+use crate::codes::{NO_PART, OK};
 use crate::fault::Fault;
 use std::alloc::Global;
+use virtiofs_id_audit::{IdAudit, comes_back, ids_apart, is_alone, reaches};
+use virtiofs_map::id_types::{GuestUid, HostUid, Id};
+use virtiofs_map::soft_idmap::IdMap;
 
-/// Writes what was found, and tells whether anything was.
-fn write(least: Option<IdsFound>, found: &mut IdsFound) -> bool
-    ensures { IsWritten least result found.old found.new }
-{
-    if let Some(it) = least {
-        *found = it;
-    }
-    least.is_some()
+/// C's `struct virtiofs_ids_found`: the least id that shows an answer.
+#[repr(C)]
+#[derive(Clone, Copy)]
+pub struct IdsFound {
+    pub guest: u32,
+    pub host: u32,
+    pub other: u32,
 }
 
+/// A map of ids. (Users and groups are alike here.)
+type Ids = IdMap<GuestUid, HostUid>;
+
+/// The map of an array.
+fn map_of(alloc: Global, specs: &[Spec]) -> Result<Ids, Fault>
+    ensures map { IfOk result (λ map. AreSaid specs.now map × Accepted map) }
+    ensures refused { IfErr result (λ told.
+        TellsFault (HasArrayFault specs.now) (IsArrayTold (code_of told) told)) }
+{
+    let list = read_all(alloc, specs)?;
+    let map = IdMap::try_from(alloc, list)?;
+    Ok(map)
+}
+
+/// The map of a second array, whose faults are told behind those of the first.
+fn map_behind(alloc: Global, specs: &[Spec], others: &[Spec]) -> Result<Ids, Fault>
+    ensures map { IfOk result (λ map. AreSaid others.now map × Accepted map) }
+    ensures refused { IfErr result (λ told.
+        TellsFault (HasFaultAfter (length specs.now) others.now) (IsArrayTold (code_of told) told)) }
+{
+    match map_of(alloc, others) {
+        Ok(map) => Ok(map),
+        Err(told) if told.part == NO_PART => Err(told),
+        Err(told) => Err(Fault {
+            place: specs.len() + told.place,
+            ..told
+        }),
+    }
+}
+
+/// What an id of the guest becomes, and the least id of the other guest that becomes that too.
+fn meeting_at(map: &Ids, other: &Ids, guest: GuestUid) -> IdsFound
+    requires { GoesInto map.now (ReachedBy other.now) guest }
+    ensures guest { result.guest ≡ guest }
+    ensures told { IsMeetingTold map.now other.now result }
+{
+    let Ok(host) = map.map_guest(guest) else {
+        unreachable!();
+    };
+    let Some(second) = reaches(other, host, host) else {
+        unreachable!();
+    };
+    IdsFound {
+        guest: guest.into_inner(),
+        host: host.into_inner(),
+        other: second.into_inner(),
+    }
+}
+
+#[tactic(auto, using(crate::proofs::ArraysLemmas::array_no_fault))]
 #[unsafe(no_mangle)]
 pub extern "C" fn virtiofs_map_ids_comes_back(
     alloc: Global,
@@ -47,15 +97,27 @@ pub extern "C" fn virtiofs_map_ids_comes_back(
         → TellsThis (IsArrayTold result fault.new) wrong }
 {
     *yes = false;
-    match come_back(alloc, specs) {
-        Ok(least) => {
-            *yes = !write(least, found);
-            fault.set(OK, Fault::none())
+    let map = match map_of(alloc, specs) {
+        Ok(map) => map,
+        Err(told) => return fault.tell(told),
+    };
+    match comes_back(&map) {
+        IdAudit::Yes => {
+            *yes = true;
+            fault.none(OK)
         }
-        Err(error) => tell(&error, fault),
+        IdAudit::No(no) => {
+            *found = IdsFound {
+                guest: no.guest.into_inner(),
+                host: no.host.into_inner(),
+                other: no.back.into_inner(),
+            };
+            fault.none(OK)
+        }
     }
 }
 
+#[tactic(auto, using(crate::proofs::ArraysLemmas::array_no_fault))]
 #[unsafe(no_mangle)]
 pub extern "C" fn virtiofs_map_ids_is_alone(
     alloc: Global,
@@ -79,15 +141,28 @@ pub extern "C" fn virtiofs_map_ids_is_alone(
         → TellsThis (IsArrayTold result fault.new) wrong }
 {
     *yes = false;
-    match alone(alloc, specs) {
-        Ok(least) => {
-            *yes = !write(least, found);
-            fault.set(OK, Fault::none())
+    let map = match map_of(alloc, specs) {
+        Ok(map) => map,
+        Err(told) => return fault.tell(told),
+    };
+    match is_alone(alloc, &map) {
+        Ok(IdAudit::Yes) => {
+            *yes = true;
+            fault.none(OK)
         }
-        Err(error) => tell(&error, fault),
+        Ok(IdAudit::No(no)) => {
+            *found = IdsFound {
+                guest: no.guest.into_inner(),
+                host: no.host.into_inner(),
+                other: no.other.into_inner(),
+            };
+            fault.none(OK)
+        }
+        Err(_) => fault.tell(Fault::of_kind(1)),
     }
 }
 
+#[tactic(auto, using(crate::proofs::ArraysLemmas::array_no_fault))]
 #[unsafe(no_mangle)]
 pub extern "C" fn virtiofs_map_ids_reaches(
     alloc: Global,
@@ -112,13 +187,23 @@ pub extern "C" fn virtiofs_map_ids_reaches(
         → TellsThis (IsArrayTold result fault.new) wrong }
 {
     *yes = true;
-    match reach(alloc, specs, first, last) {
-        Ok(least) => {
-            *yes = write(least, found);
-            fault.set(OK, Fault::none())
-        }
-        Err(error) => tell(&error, fault),
-    }
+    let map = match map_of(alloc, specs) {
+        Ok(map) => map,
+        Err(told) => return fault.tell(told),
+    };
+    let Some(guest) = reaches(&map, HostUid::from(first), HostUid::from(last)) else {
+        *yes = false;
+        return fault.none(OK);
+    };
+    let Ok(host) = map.map_guest(guest) else {
+        unreachable!();
+    };
+    *found = IdsFound {
+        guest: guest.into_inner(),
+        host: host.into_inner(),
+        other: 0,
+    };
+    fault.none(OK)
 }
 
 #[unsafe(no_mangle)]
@@ -147,11 +232,23 @@ pub extern "C" fn virtiofs_map_ids_apart(
         → TellsThis (IsArrayTold result fault.new) wrong }
 {
     *yes = false;
-    match apart(alloc, specs, others) {
-        Ok(least) => {
-            *yes = !write(least, found);
-            fault.set(OK, Fault::none())
+    let map = match map_of(alloc, specs) {
+        Ok(map) => map,
+        Err(told) => return fault.tell(told),
+    };
+    let other = match map_behind(alloc, specs, others) {
+        Ok(other) => other,
+        Err(told) => return fault.tell(told),
+    };
+    match ids_apart(alloc, &map, &other) {
+        Ok(IdAudit::Yes) => {
+            *yes = true;
+            fault.none(OK)
         }
-        Err(error) => tell(&error, fault),
+        Ok(IdAudit::No(guest)) => {
+            *found = meeting_at(&map, &other, guest);
+            fault.none(OK)
+        }
+        Err(_) => fault.tell(Fault::of_kind(1)),
     }
 }

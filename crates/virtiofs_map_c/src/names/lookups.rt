@@ -2,7 +2,7 @@
 ghost use Rattle.std.specs.List.{before_first};
 ghost use Rattle.std.specs.Prelude.{◌≡◌, ◌==◌, ◌++◌, ℕ, List, Option, false, MatchResult};
 ghost use Rattle.virtiofs_map.specs.NamesImage.{WritesList};
-ghost use Rattle.virtiofs_map_c.specs.Codes.{no_map, no_memory, ok};
+ghost use Rattle.virtiofs_map_c.specs.Faults.{no_map, no_memory, ok};
 ghost use Rattle.virtiofs_map_c.specs.Names.{TellsDecision, TellsFound, TellsNo, TellsServer};
 ghost use Rattle.virtiofs_map_c.specs.Replies.{TellsBytes};
 

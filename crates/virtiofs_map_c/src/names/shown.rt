@@ -3,7 +3,7 @@ ghost use Rattle.std.specs.Prelude.{◌≡◌, ◌≤◌, ◌<◌, ◌+◌, List
 ghost use Rattle.virtiofs_map.specs.Names.{IsListed};
 ghost use Rattle.virtiofs_map.specs.NamesImage.{IsImage, IsNoImage, WritesList};
 ghost use Rattle.virtiofs_map.specs.Rule.{MappingRule};
-ghost use Rattle.virtiofs_map_c.specs.Shown.{IsFirstShown, IsShownAs, shown_as, shown_length, shown_list, without_empty};
+ghost use Rattle.virtiofs_map_c.specs.Names.{IsFirstShown, IsShownAs, shown_as, shown_length, shown_list, without_empty};
 
 use virtiofs_map::xattrmap::image::{Decision, ListWritten, cut_name, decide, put_name};
 use virtiofs_map::xattrmap::{Side, XattrMapRef};

@@ -1,6 +1,6 @@
 //! What is quoted of a hostile text: nothing of it can colour a terminal, move a cursor or begin a
 //! line of a log, and letters of any script stand as they are.
-ghost use Rattle.virtiofs_map_c.specs.Front.{Goes};
+ghost use Rattle.virtiofs_map_c.specs.Replies.{Goes};
 
 use super::front::put;
 use unicode::properties::GeneralCategory;

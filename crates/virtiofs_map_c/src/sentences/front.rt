@@ -1,32 +1,24 @@
 //! A text that is written piece by piece into the caller's buffer, as far as there is room.
 ghost use Rattle.std.specs.Prelude.{◌≡◌};
-ghost use Rattle.virtiofs_map_c.specs.Front.{Goes, cut_text};
+ghost use Rattle.virtiofs_map_c.specs.Replies.{Goes, cut_text};
 
 use itoa::Buffer;
 use std::str::from_utf8;
 
-/// Writes a byte behind the text of that length, if there is room, and adds it to the length.
-fn put_byte(byte: u8, out: &mut [u8], len: &mut usize)
-    ensures { Goes len.old out.old len.new out.new }
-{
-    let at = *len;
-    *len = at.saturating_add(1);
-    if out.len() <= at {
-        return;
-    }
-    out[at] = byte;
-}
-
-/// Writes bytes, as [`put_byte`] does.
+/// Writes bytes behind the text of that length, as far as there is room, and adds them to the length.
 pub fn put(bytes: &[u8], out: &mut [u8], len: &mut usize)
     ensures { Goes len.old out.old len.new out.new }
 {
     for byte in bytes {
-        put_byte(*byte, out, len);
+        let at = *len;
+        *len = at.saturating_add(1);
+        if at < out.len() {
+            out[at] = *byte;
+        }
     }
 }
 
-/// Writes a number in decimal, as [`put_byte`] does.
+/// Writes a number in decimal, as [`put`] does.
 pub fn put_number(number: u64, out: &mut [u8], len: &mut usize)
     ensures { Goes len.old out.old len.new out.new }
 {

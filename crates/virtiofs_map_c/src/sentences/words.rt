@@ -33,23 +33,44 @@ pub fn place_words(fault: &Fault) -> &'static str {
     }
 }
 
-/// What is wrong. Lists and capabilities have each their own words for a length.
-pub fn front_words(fault: &Fault) -> &'static str {
-    let of_capability = fault.part == CAPABILITY_VALUE;
+/// What is wrong, in three pieces: the second is a specification, what one sets up, or how a field is
+/// no number.
+pub fn words_of(fault: &Fault) -> (&'static str, &'static str, &'static str) {
     match fault.kind {
+        4 => (
+            "Parameter ",
+            said_words(fault.spec.kind),
+            ": Range overflow",
+        ),
+        5 => {
+            let (front, from_guest) = match fault.direction {
+                0 => ("Guest-to-host mapping '", true),
+                _ => ("Host-to-guest mapping '", false),
+            };
+            let entry = entry_words(fault.spec.kind, from_guest);
+            (front, entry, "' intersects previously added entry")
+        }
+        8 => (
+            "Invalid value \x03 in ID map: ",
+            number_words(fault.number),
+            "",
+        ),
+        11 => ("", number_words(fault.number), ""),
+        kind => (plain_words(kind, fault.part == CAPABILITY_VALUE), "", ""),
+    }
+}
+
+/// What is wrong, by its kind. Lists and capabilities have each their own words for a length.
+fn plain_words(kind: u32, of_capability: bool) -> &'static str {
+    match kind {
         0 => "there is no fault",
         1 => "Out of memory",
         2 => "the text is not UTF-8",
         3 => "there is no such kind",
-        4 => "Parameter ",
-        5 if fault.direction == 0 => "Guest-to-host mapping '",
-        5 => "Host-to-guest mapping '",
         6 => "Invalid ID map prefix \x03",
         7 => "Invalid ID map length (expected \x04 elements, got \x05 elements)",
-        8 => "Invalid value \x03 in ID map: ",
         9 => "A delimiter has been found that does not match the delimiter the map started with",
         10 => "The map is empty or incorrect number of values are provided",
-        11 => "",
         12 => "invalid scope '\x03', expected one of: all, client, server",
         13 => "invalid type '\x03', expected one of: prefix, ok, bad, map",
         14 => "the rule is incomplete",
@@ -71,26 +92,6 @@ pub fn front_words(fault: &Fault) -> &'static str {
         27 => "the id would become that of an earlier entry",
         28 => "the revision has no id of root",
         _ => "there is no such fault",
-    }
-}
-
-/// What stands in the middle of a sentence: a specification, what one sets up, or how a field is no
-/// number.
-pub fn middle_words(fault: &Fault) -> &'static str {
-    match fault.kind {
-        4 => said_words(fault.spec.kind),
-        5 => entry_words(fault.spec.kind, fault.direction == 0),
-        8 | 11 => number_words(fault.number),
-        _ => "",
-    }
-}
-
-/// How a sentence ends that is about a specification.
-pub fn end_words(fault: &Fault) -> &'static str {
-    match fault.kind {
-        4 => ": Range overflow",
-        5 => "' intersects previously added entry",
-        _ => "",
     }
 }
 

@@ -2,7 +2,6 @@
 
 use Wanted::{Denied, Other, Owned, Same, Unsupported, Unterminated};
 use std::alloc::Global;
-use std::process::Abort;
 use std::test::Fail;
 use virtiofs_map::xattrmap::{AppliedRule, Error, ErrorKind, PassedName, XattrMap, XattrName};
 use virtiofs_map_callers::names::{host_name, names, say_the_same};
@@ -10,7 +9,7 @@ use virtiofs_map_callers::names::{host_name, names, say_the_same};
 /// What a map of this text is to make of one name.
 type Case = (&'static str, &'static [u8], Wanted<'static>);
 
-static RULES: [Case; 5] = [
+static RULES: [Case; 10] = [
     (":ok:all:é:é: :bad:all:::", b"\xe9", Denied),
     (":unsupported:client:a:: :ok:all:::", b"ab", Unsupported),
     (":ok:client:a::", b"b", Unterminated),
@@ -20,9 +19,6 @@ static RULES: [Case; 5] = [
         Owned(b"\xc3\xbc.\xc3\xa9"),
     ),
     (":ok:all:::", b"\xff\xc3", Same),
-];
-
-static MAP_RULES: [Case; 5] = [
     (":map:a:ab:", b"abx", Owned(b"ababx")),
     (":map:ab:a:", b"abx", Owned(b"aabx")),
     (":map:a::", b"ax", Owned(b"ax")),
@@ -32,12 +28,13 @@ static MAP_RULES: [Case; 5] = [
 
 #[test]
 fn answers_by_the_first_rule(rt: HostRuntime) -> Result<(), Fail> {
-    assert_clients(&rt, rt.alloc(), &RULES)
-}
-
-#[test]
-fn answers_by_a_map_rule(rt: HostRuntime) -> Result<(), Fail> {
-    assert_clients(&rt, rt.alloc(), &MAP_RULES)
+    for &(text, bytes, wanted) in &RULES {
+        let map = XattrMap::try_from(rt.alloc(), text)?;
+        let name = XattrName::new(bytes).ok_or("a name holds a zero")?;
+        let answer = map.map_client_xattr(rt.alloc(), name);
+        assert_eq!(rt; given(bytes, &answer), wanted, "{bytes:?} under {text:?}");
+    }
+    Ok(())
 }
 
 #[test]
@@ -104,14 +101,4 @@ fn given<'n>(name: &[u8], answer: &'n Result<AppliedRule<'n>, Error>) -> Wanted<
         Err(error) if *error == Error::from(ErrorKind::UnterminatedMapping) => Unterminated,
         _ => Other,
     }
-}
-
-fn assert_clients(rt: &impl Abort, alloc: Global, cases: &[Case]) -> Result<(), Fail> {
-    for &(text, bytes, wanted) in cases {
-        let map = XattrMap::try_from(alloc, text)?;
-        let name = XattrName::new(bytes).ok_or("a name holds a zero")?;
-        let answer = map.map_client_xattr(alloc, name);
-        assert_eq!(rt; given(bytes, &answer), wanted, "{bytes:?} under {text:?}");
-    }
-    Ok(())
 }

@@ -8,31 +8,21 @@ use virtiofs_map::xattrmap::Side::{self, Client, Server};
 use virtiofs_map::xattrmap::{Error, ErrorKind, XattrMap};
 
 /// Texts that mean the same, and not the same as those of other rows.
-static ALIKE: [&[&str]; 11] = [
+static ALIKE: [&[&str]; 7] = [
     &[":ok:all:::", "xokxallxxx", "\0ok\0all\0\0\0"],
     &[
         ":ok:all::::ok:all::::ok:all:::",
         ":ok:all:::\u{a0}ok\u{a0}all\u{a0}\u{a0}\u{a0}:ok:all:::",
         ":ok:all:::\u{b}ok\u{b}all\u{b}\u{b}\u{b}:ok:all:::",
     ],
-    &[":bad:all:::", "obadoallooo"],
     &[":prefix:all::P::bad:all:::", ":map::P:   "],
     &[":prefix:client:trusted.:user.virtiofs.:"],
     &[":prefix:all:trusted.:user.virtiofs.:"],
-    &[":prefix:all:user.virtiofs.:trusted.:"],
-    &[
-        ":prefix:all::user.virtiofs.::bad:all:::",
-        ":map::user.virtiofs.:",
-    ],
     &[
         ":prefix:all:trusted.:user.virtiofs.::bad:server::trusted.:\
          :bad:client:user.virtiofs.:::ok:all:::",
         "\n        /prefix/all/trusted./user.virtiofs./\n        /bad/server//trusted./\n        \
          /bad/client/user.virtiofs.//\n        /ok/all///\n        ",
-    ],
-    &[
-        ":prefix:all:trusted.:user.virtiofs.::prefix:all:trusted.:user.virtiofs.:",
-        ":prefix:all:trusted.:user.virtiofs.: /prefix/all/trusted./user.virtiofs./",
     ],
     &[
         ":prefix:all:trusted.:user.virtiofs.: :bad:all:user.virtiofs.:trusted.: :ok:all:::",
@@ -52,38 +42,21 @@ fn compares_by_what_rules_mean(rt: HostRuntime) -> Result<(), Fail> {
     Ok(())
 }
 
-/// A text that says no rules, and what is printed of its first fault.
-static FAULTS: [(&str, &str); 24] = [
+/// A text that says no rules, and what is printed of its first fault. Rows of `tests/program.jsonl`
+/// have more, but none with a zero.
+static FAULTS: [(&str, &str); 12] = [
     (" ", "there are no rules"),
     (":", "rule 1: the rule is incomplete"),
-    (
-        ":ok:all:::\u{a0}ok\u{a0}all\u{a0}\u{a0}\u{a0}",
-        "rule 2: the rule is incomplete",
-    ),
-    (":prefix:all:a:b", "rule 1: the rule is incomplete"),
-    (
-        ":map:trusted.:virtiofs.user.::map:trusted.:virtiofs.user.:",
-        "rule 1: a map rule has to stand last",
-    ),
-    (
-        ":bad:all:x:y: :map::P: :ok:all:::",
-        "rule 2: a map rule has to stand last",
-    ),
     (":ok:all:a\0:", "rule 1: Key holds NUL"),
     (":ok:all:a\0", "rule 1: the rule is incomplete"),
     (":map:a\0:b\0:", "rule 1: Key holds NUL"),
     (":map:a:b\0:", "rule 1: Prepend holds NUL"),
     (":prefix:all:a:b\0", "rule 1: the rule is incomplete"),
     (":map::P: x", "rule 1: a map rule has to stand last"),
-    (":map:all:x:y:", "rule 1: a map rule has to stand last"),
     (
-        ":ok:all:::\u{b}ok\u{b}all\u{b}\u{b}\u{b}",
-        "rule 2: the rule is incomplete",
+        ":bad:all:x:y: :map::P: :ok:all:::",
+        "rule 2: a map rule has to stand last",
     ),
-    (":ok:all:::\u{feff}", "rule 2: the rule is incomplete"),
-    ("\u{feff}:ok:all:::", "rule 1: the rule is incomplete"),
-    (":map::P:\u{200b}", "rule 1: a map rule has to stand last"),
-    (":prefix:client:hi", "rule 1: the rule is incomplete"),
     (
         ":\u{170}refix:all:::",
         "rule 1: invalid type '\u{170}refix', expected one of: prefix, ok, bad, map",
@@ -93,20 +66,8 @@ static FAULTS: [(&str, &str); 24] = [
         "rule 1: invalid type '', expected one of: prefix, ok, bad, map",
     ),
     (
-        ":TOMATOPIRATE:trusted.:virtiofs.user.:",
-        "rule 1: invalid type 'TOMATOPIRATE', expected one of: prefix, ok, bad, map",
-    ),
-    (
-        ":ok:all::::bad:nope:::",
-        "rule 2: invalid scope 'nope', expected one of: all, client, server",
-    ),
-    (
         ":ok:all::: :bad:nope\0:::",
         "rule 2: invalid scope 'nope\0', expected one of: all, client, server",
-    ),
-    (
-        "/prefix/helloworld///",
-        "rule 1: invalid scope 'helloworld', expected one of: all, client, server",
     ),
 ];
 

@@ -1,6 +1,6 @@
 use Rattle.std.proofs.lemmas.Result.{err_from_is_err_and}
 use Rattle.virtiofs_acl.proofs.AclChangeLemmas.{ChangesList-done, ChangesList-refused}
-use Rattle.virtiofs_acl.proofs.AclFaultLemmas.{HasAclFault-size, HasAclFault-unsound_below}
+use Rattle.virtiofs_acl.proofs.AclFaultLemmas.{HasAclFault-unsound_below}
 use Rattle.virtiofs_acl.proofs.AclWriteLemmas.{IsTranslated-written}
 use Rattle.virtiofs_acl.proofs.lists.translate_acl.Goals as goal
 
@@ -9,7 +9,7 @@ returns-in_err-count-clause-change c = λ users groups of_users of_groups.
     let p = err_from_is_err_and c.from_residual.result c.from_residual.ensures.1 in
     rw (p.1, p.2)
     (ChangesList-refused users groups _ _ _ _ of_users.accepted of_groups.accepted
-    (HasAclFault-size users groups _ _ _ _ c.in_err-count.ensures.refused))
+    (c.in_err-count.ensures.refused users groups _))
 
 pub returns-in_err-test_entries-clause-change : goal.returns-in_err-test_entries-clause-change
 returns-in_err-test_entries-clause-change c = λ users groups of_users of_groups.

@@ -1,9 +1,8 @@
 use Rattle.std.proofs.Common.{◌∙◌, refl, sym, arith}
 use Rattle.std.proofs.lemmas.Bool.{true≢false}
 use Rattle.virtiofs_findings.proofs.AdviceLemmas.{is_audited, all_refused}
-use Rattle.virtiofs_findings.proofs.ListLemmas.{is_empty_here}
+use Rattle.virtiofs_findings.proofs.ListLemmas.{is_empty_here, decides_not}
 use Rattle.virtiofs_findings.proofs.NarrowerLemmas.{are_narrower}
-use Rattle.virtiofs_findings.proofs.TestLemmas.{decides_not}
 use Rattle.virtiofs_findings.proofs.advice.try_others.Goals as goal
 
 pub returns-then-not-is_empty : goal.returns-then-not-is_empty

@@ -6,6 +6,5 @@ use Rattle.virtiofs_findings.proofs.setup.read_ranges.Goals as goal
 
 pub returns-then-is_empty-clause-says : goal.returns-then-is_empty-clause-says
 returns-then-is_empty-clause-says g c =
-    let (refusal, at_one, why, added) = c.in_ok-tell.ensures in
     let none = ap texts_of (is_empty_here _ _ c.is_empty.ensures c.if-is_empty.true) in
-    adds_unknown _ _ _ _ _ _ refusal (c.if-by_another.true, none) at_one added
+    adds_unknown _ _ _ _ _ _ _ (c.if-by_another.true, none) c.in_ok-tell.ensures

@@ -1,5 +1,5 @@
 use Rattle.virtiofs_findings.proofs.SetUpLemmas.{says_more, refuses_range, adds_range, ranges_right}
-use Rattle.std.proofs.Common.{◌++◌, ◌∷◌, [], ◌∙◌, ap, subst, arith, append-nil}
+use Rattle.std.proofs.Common.{subst, arith, append-nil}
 use Rattle.std.specs.List.{AllZip}
 use Rattle.std.proofs.lemmas.List.{take_all, length-map}
 use Rattle.virtiofs_map.specs.Specifications.{texts_of}
@@ -18,9 +18,8 @@ returns-in-Err-clause-read g c = refuses_range _ _ _ _ c.loop-place-test.true c.
 
 pub returns-in-Err-clause-says : goal.returns-in-Err-clause-says
 returns-in-Err-clause-says g c =
-    let told = c.in_ok-tell-in-Err.ensures in
     adds_range _ _ _ _ _ _ _ _ _ _ c.loop-place-test.true c.loop-place.invariant.0 c.in-Err.ensures.refused
-    (told.0, told.1, told.2, told.3 ∙ ap (λ t. t ++ told.0 ∷ []) c.loop-place.invariant.1)
+    (rw c.loop-place.invariant.1 at c.in_ok-tell-in-Err.ensures)
 
 pub returns-clause-says : goal.returns-clause-says
 returns-clause-says g c =

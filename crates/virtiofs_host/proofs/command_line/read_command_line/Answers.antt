@@ -1,8 +1,7 @@
-use Rattle.virtiofs_host.proofs.SequenceLemmas.{stuck_once, ThenRest-more, AreAll-not_wrong, StopsAfter-one}
-use Rattle.std.proofs.Common.{arith, ◌≡◌, ◌∙◌, length, rules}
-use Rattle.std.proofs.lemmas.List.{length-map, map_push}
+use Rattle.std.proofs.Common.{◌≡◌, ◌∙◌, length, rules}
+use Rattle.std.proofs.lemmas.List.{length-map}
 use Rattle.virtiofs_host.proofs.CommandLineLemmas.{BeginsWord-read}
-use Rattle.virtiofs_host.proofs.SequenceLemmas.{stops_here, all_here}
+use Rattle.virtiofs_host.proofs.SequenceLemmas.{stops_here, all_here, AreAll-not_wrong, StopsAfter-one}
 use Rattle.virtiofs_host.proofs.command_line.read_command_line.Goals as goal
 
 pub returns-in_default-clause-complete : goal.returns-in_default-clause-complete
@@ -18,12 +17,6 @@ returns-in_default-clause-faulty g c =
     let stops = stops_here _ _ _ _ _ c.loop-rest.invariant
     (length-map c.loop-rest.words.items _ ∙ counted) c.loop-rest-test.ensures c.in_default.ensures.none in
     λ place wrong. StopsAfter-one _ BeginsWord-read _ _ _ stops wrong
-
-pub loop-rest-preserved : goal.loop-rest-preserved
-loop-rest-preserved g c = grind (arith, map_push, ThenRest-more)
-
-pub returns-clause-complete : goal.returns-clause-complete
-returns-clause-complete g c = grind (arith, all_here, stuck_once, BeginsWord-read)
 
 pub returns-clause-faulty : goal.returns-clause-faulty
 returns-clause-faulty g c =

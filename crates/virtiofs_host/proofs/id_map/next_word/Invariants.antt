@@ -1,7 +1,6 @@
 -- the words that are left are those of the line
 use Rattle.std.proofs.Common.{◌≡◌}
-use Rattle.virtiofs_host.specs.CutParts.{bytes_left}
-use Rattle.virtiofs_host.specs.IdMapParts.{words_left}
+use Rattle.virtiofs_host.specs.CutParts.{bytes_left, words_left}
 use Rattle.virtiofs_host.proofs.id_map.next_word.Given as goal
 
 abbrev pub invariant-loop-left : goal.invariant-loop-left

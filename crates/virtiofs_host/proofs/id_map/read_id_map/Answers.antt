@@ -1,7 +1,6 @@
-use Rattle.virtiofs_host.proofs.SequenceLemmas.{stuck_once, ThenRest-more, AreAll-not_wrong, StopsAfter-one}
-use Rattle.std.proofs.Common.{arith, ◌≡◌, length, rules}
+use Rattle.std.proofs.Common.{◌≡◌, length, rules}
 use Rattle.virtiofs_host.proofs.IdMapLemmas.{BeginsRange-read}
-use Rattle.virtiofs_host.proofs.SequenceLemmas.{stops_here, all_here}
+use Rattle.virtiofs_host.proofs.SequenceLemmas.{stops_here, all_here, AreAll-not_wrong, StopsAfter-one}
 use Rattle.virtiofs_host.proofs.id_map.read_id_map.Goals as goal
 
 pub returns-in_default-clause-complete : goal.returns-in_default-clause-complete
@@ -15,12 +14,6 @@ returns-in_default-clause-faulty g c =
     let counted : length c.loop-rest.ranges.items ≡ c.len.result = search rules in
     let stops = stops_here _ _ _ _ _ c.loop-rest.invariant counted c.loop-rest-test.ensures c.in_default.ensures.none in
     λ place wrong. StopsAfter-one _ BeginsRange-read _ _ _ stops wrong
-
-pub loop-rest-preserved : goal.loop-rest-preserved
-loop-rest-preserved g c = grind (arith, ThenRest-more)
-
-pub returns-clause-complete : goal.returns-clause-complete
-returns-clause-complete g c = grind (arith, all_here, stuck_once, BeginsRange-read)
 
 pub returns-clause-faulty : goal.returns-clause-faulty
 returns-clause-faulty g c =

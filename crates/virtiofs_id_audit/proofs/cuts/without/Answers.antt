@@ -1,5 +1,4 @@
 use Rattle.std.proofs.Common.{◌+◌, arith}
-use Rattle.virtiofs_id_audit.specs.declared.spans.Span.{Span}
 use Rattle.virtiofs_id_audit.proofs.cuts.WithoutLemmas.{CutTo-start, CutTo-more, CutTo-end}
 use Rattle.virtiofs_id_audit.proofs.cuts.without.Goals as goal
 

@@ -4,9 +4,8 @@ use Rattle.std.proofs.Common.{Some, refl, sym, ◌∙◌, subst, arith, rules}
 use Rattle.std.proofs.Math.Bool.{beq}
 use Rattle.std.proofs.lemmas.Bool.{false≢true, true_from_ne_false, false_from_ne_true}
 use Rattle.std.proofs.lemmas.Option.{same_Some}
-use Rattle.virtiofs_id_audit.specs.ExtentParts.{IsSought, of_bad, IsRun, AreStarts}
 use Rattle.virtiofs_id_audit.specs.IdAudit.{IsAstray, GoesInto, Hold}
-use Rattle.virtiofs_id_audit.specs.IdAuditParts.{ReturnsBy, BecomesOne, IsMoved}
+use Rattle.virtiofs_id_audit.specs.IdAuditParts.{ReturnsBy, BecomesOne, IsMoved, IsSought, of_bad, IsRun, AreStarts}
 use Rattle.virtiofs_id_audit.specs.declared.spans.Run.{Run}
 use Rattle.virtiofs_id_audit.specs.declared.spans.Span.{Span}
 use Rattle.virtiofs_map.specs.Build.{Accepted}

@@ -1,10 +1,9 @@
 -- Which ids of the guest are sought.
-use Rattle.std.proofs.Common.{◌↔◌, ℕ, ◌<◌, ◌≤◌, List, get_or, arith, rules}
+use Rattle.std.proofs.Common.{◌↔◌, ℕ, ◌<◌, ◌≤◌, List, get_or, arith}
 use Rattle.std.specs.List.{All}
 use Rattle.std.proofs.lemmas.List.{get_or_default}
-use Rattle.virtiofs_id_audit.specs.ExtentParts.{IsSought}
 use Rattle.virtiofs_id_audit.specs.IdAudit.{Hold, AreRuns}
-use Rattle.virtiofs_id_audit.specs.IdAuditParts.{HoldBelow}
+use Rattle.virtiofs_id_audit.specs.IdAuditParts.{HoldBelow, IsSought}
 use Rattle.virtiofs_id_audit.specs.declared.extents.runs.Sought.{Sought}
 use Rattle.virtiofs_id_audit.specs.declared.spans.Span.{Span}
 use Rattle.virtiofs_map.specs.declared.cmdline.IdMap.{IdMap}

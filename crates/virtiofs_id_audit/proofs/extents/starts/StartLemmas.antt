@@ -3,7 +3,7 @@ use Rattle.std.proofs.Common.{◌≡◌, ◌⊎◌, ◌↔◌, inl, inr, ℕ, �
 use Rattle.std.proofs.Common.{Some, None, refl, sym, ap, ◌∙◌, arith, rules}
 use Rattle.std.proofs.lemmas.Bool.{cases_lt, cases_order}
 use Rattle.std.proofs.lemmas.Option.{same_Some}
-use Rattle.virtiofs_id_audit.specs.ExtentParts.{AreStarts}
+use Rattle.virtiofs_id_audit.specs.IdAuditParts.{AreStarts}
 use Rattle.virtiofs_id_audit.specs.IdAudit.{Hold}
 use Rattle.virtiofs_id_audit.specs.declared.spans.Span.{Span}
 use Rattle.virtiofs_map.specs.Build.{Accepted}

@@ -1,5 +1,5 @@
 -- The order of patterns by the numbers of their first bytes is that of their bytes.
-use Rattle.std.proofs.Common.{◌≡◌, ◌⊎◌, ℕ, ◌+◌, ◌-◌, ◌<◌, ◌≤◌, false, List, length, take, drop, get_or, inl, inr, sym}
+use Rattle.std.proofs.Common.{◌≡◌, ◌⊎◌, ℕ, ◌+◌, ◌-◌, ◌<◌, ◌≤◌, false, List, take, drop, get_or, inl, inr, sym}
 use Rattle.std.proofs.Common.{ap, subst, ◌∙◌, arith, w64, All, IsSortedBy, nat_cmp, is_lt, get_or-take}
 use Rattle.std.proofs.Common.{get_or-drop, take-take, rules}
 use Rattle.std.specs.Cmp.Lexicographic.{slice_cmp, nat_list_cmp_total}
@@ -8,12 +8,9 @@ use Rattle.std.specs.Ordering.{ordering_then}
 use Rattle.std.specs.declared.cmp.Ordering.{Ordering}
 use Rattle.std.proofs.lemmas.Bool.{cases_lt}
 use Rattle.std.proofs.lemmas.List.{drop-take}
-use Rattle.std.proofs.lemmas.List.Elements.{All-contains}
 use Rattle.std.proofs.lemmas.List.Sorted.{ranks_by, sorted_far}
-use Rattle.std.proofs.lemmas.Option.{slice_get_within, get_or_from_slice_get}
 use Rattle.virtiofs_map.specs.KeyedParts.{AreBytes, key_of, word_of}
-use Rattle.virtiofs_map.specs.NodeParts.{AreInOrder}
-use Rattle.virtiofs_map.specs.TrieBuildParts.{IsReady}
+use Rattle.virtiofs_map.specs.TrieBuildParts.{AreReady, IsReady, pattern_at}
 use Rattle.virtiofs_map.specs.declared.xattrmap.trie.patterns.Pattern.{Pattern}
 use Rattle.virtiofs_map.proofs.xattrmap.trie.PatternLemmas.{less, level, later_byte}
 
@@ -42,21 +39,19 @@ lesser_word d xs ys few bytes same lesser = grind (arith, shared_byte)
 word_step : (depth : ℕ) (xs ys : List ℕ) (rest : Ordering) → AreBytes ys → take depth xs ≡ take depth ys
     → is_lt (ordering_then (nat_cmp (word_of ys) (word_of xs)) rest) ≡ false
     → (get_or xs depth 0 ≤ get_or ys depth 0) ⊎ ((8 ≤ depth) × (is_lt rest ≡ false))
-word_step depth xs ys rest bytes same order = by (cases_lt depth 8) where
-  by : (depth < 8) ⊎ (8 ≤ depth) → (get_or xs depth 0 ≤ get_or ys depth 0) ⊎ ((8 ≤ depth) × (is_lt rest ≡ false))
-  by (inl few) = inl (first (cases_lt (get_or ys depth 0) (get_or xs depth 0))) where
-    first : (get_or ys depth 0 < get_or xs depth 0) ⊎ (get_or xs depth 0 ≤ get_or ys depth 0)
-        → get_or xs depth 0 ≤ get_or ys depth 0
-    first (inl lesser) =
-        absurd (grind (arith, less, lesser_word))
-    first (inr above) = above
-  by (inr many) =
-      let eight : take 8 xs ≡ take 8 ys =
+word_step depth xs ys rest bytes same order = elim (cases_lt depth 8) [
+  | inl few ↦ inl (elim (cases_lt (get_or ys depth 0) (get_or xs depth 0)) [
+    | inl lesser ↦ absurd (grind (arith, less, lesser_word))
+    | inr above ↦ above
+  ])
+  | inr many ↦
+      (let eight : take 8 xs ≡ take 8 ys =
       sym (take-take 8 depth xs many) ∙ ap (take 8) same ∙ take-take 8 depth ys many in
       let word : word_of xs ≡ word_of ys = same_word xs ys eight in
       let here : is_lt (ordering_then (nat_cmp (word_of ys) (word_of ys)) rest) ≡ false =
       grind (arith, is_lt, nat_cmp) in
-      inr (many, sym (level (word_of ys) rest) ∙ here)
+      inr (many, sym (level (word_of ys) rest) ∙ here))
+]
 
 -- ---- two numbers, and then all bytes
 
@@ -68,26 +63,20 @@ later_key : (depth : ℕ) (xs ys : List ℕ) → AreBytes ys → take depth xs �
     (ordering_then (nat_cmp (word_of (drop 8 ys)) (word_of (drop 8 xs))) (slice_cmp nat_cmp ys xs))) ≡ false
     → get_or xs depth 0 ≤ get_or ys depth 0
 later_key depth xs ys bytes same order =
-    by (search (rules, word_step)) where
-      by : (get_or xs depth 0 ≤ get_or ys depth 0) ⊎ ((8 ≤ depth)
-          × (is_lt (ordering_then (nat_cmp (word_of (drop 8 ys)) (word_of (drop 8 xs))) (slice_cmp nat_cmp ys xs)) ≡ false))
-          → get_or xs depth 0 ≤ get_or ys depth 0
-      by (inl above) = above
-      by (inr (many, next)) =
-          let more : depth ≡ 8 + (depth - 8) = omega (arith, many) in
+    elim (word_step depth xs ys
+    (ordering_then (nat_cmp (word_of (drop 8 ys)) (word_of (drop 8 xs))) (slice_cmp nat_cmp ys xs)) bytes same order) [
+      | inl above ↦ above
+      | inr (many, next) ↦
+          (let more : depth ≡ 8 + (depth - 8) = omega (arith, many) in
           let rest : take (depth - 8) (drop 8 xs) ≡ take (depth - 8) (drop 8 ys) =
           sym (drop-take 8 (depth - 8) xs) ∙ ap (λ n. drop 8 (take n xs)) (sym more) ∙ ap (drop 8) same
           ∙ ap (λ n. drop 8 (take n ys)) more ∙ drop-take 8 (depth - 8) ys in
-          next_word (search (rules, word_step, bytes_after))
-        where
-          next_word : (get_or (drop 8 xs) (depth - 8) 0 ≤ get_or (drop 8 ys) (depth - 8) 0)
-              ⊎ ((8 ≤ depth - 8) × (is_lt (slice_cmp nat_cmp ys xs) ≡ false))
-              → get_or xs depth 0 ≤ get_or ys depth 0
-          next_word (inl above) =
-              let other = get_or-drop 8 ys (depth - 8) 0 in
-              let at : 8 + (depth - 8) ≡ depth = omega (arith, many) in
-              subst (λ (n : ℕ). get_or xs n 0 ≤ get_or ys n 0) at (omega (arith, get_or-drop 8 xs (depth - 8) 0, other))
-          next_word (inr (far, last)) = later_byte xs ys depth same last
+          elim (word_step (depth - 8) (drop 8 xs) (drop 8 ys) (slice_cmp nat_cmp ys xs) (bytes_after 8 ys bytes) rest next) [
+            | inl above ↦ subst (λ (n : ℕ). get_or xs n 0 ≤ get_or ys n 0) (sym more)
+                (omega (arith, get_or-drop 8 xs (depth - 8) 0, get_or-drop 8 ys (depth - 8) 0, above))
+            | inr (far, last) ↦ later_byte xs ys depth same last
+          ])
+    ]
 
 -- ---- patterns
 
@@ -98,20 +87,13 @@ later_keyed : (most depth : ℕ) (one other : Pattern) → IsReady most one → 
 later_keyed most depth one other numbers numbers' same order = search (rules, is_lt, later_key)
 
 -- patterns in the order of their keys are in the order of their bytes
-pub AreInOrder-keyed : (most : ℕ) (patterns : List Pattern) → All (IsReady most) patterns
+pub AreReady-keyed : (most : ℕ) (patterns : List Pattern) → All (IsReady most) patterns
     → IsSortedBy (λ (a b : Pattern). is_lt (slice_cmp nat_cmp (key_of a) (key_of b))) patterns
-    → AreInOrder patterns
-AreInOrder-keyed most patterns each sorted = record {
-  rising = λ i j depth one other before here there same.
-      let inside : j < length patterns = slice_get_within patterns j other there in
-      let within : i < length patterns = slice_get_within patterns i one here in
-      let is_one = get_or_from_slice_get patterns i one one here in
-      let is_other = get_or_from_slice_get patterns j other one there in
-      let far =
-      sorted_far (λ (a b : Pattern). is_lt (slice_cmp nat_cmp (key_of a) (key_of b)))
-      (ranks_by nat_list_cmp_total key_of) patterns sorted i j one (omega arith) inside in
-      let order : is_lt (slice_cmp nat_cmp (key_of other) (key_of one)) ≡ false =
-      grind (arith, is_lt, nat_cmp) in
-      later_keyed most depth one other (All-contains (IsReady most) patterns one each (i, within, is_one))
-      (grind (arith, All-contains, get_or_from_slice_get)) same order;
+    → AreReady most patterns
+AreReady-keyed most patterns each sorted = record {
+  each = each;
+  rising = λ i j depth l within same.
+      later_keyed most depth (pattern_at patterns i) (pattern_at patterns j) (each i _ (omega arith)) (each j _ within) same
+      (sorted_far (λ (a b : Pattern). is_lt (slice_cmp nat_cmp (key_of a) (key_of b)))
+      (ranks_by nat_list_cmp_total key_of) patterns sorted i j _ l within);
 }

@@ -27,50 +27,49 @@ pub last_more : (first x : ℕ) (xs : List ℕ) → last_byte first (xs ++ x ∷
 last_more first x [] = refl
 last_more first x (y ∷ xs) = last_more y x xs
 
-range_both : (a m n : ℕ) → range_with_len a (m + n) ≡ range_with_len a m ++ range_with_len (a + m) n
-range_both a zero n = grind arith
-range_both a (suc m) n =
-    let size : suc m + n ≡ suc (m + n) = omega arith in
-    let from : a + 1 + m ≡ a + suc m = omega arith in
+range_more : (a n : ℕ) → range_with_len a (n + 1) ≡ range_with_len a n ++ (a + n) ∷ []
+range_more a zero = grind arith
+range_more a (suc n) =
+    let size : suc n + 1 ≡ suc (n + 1) = omega arith in
+    let last : a + 1 + n ≡ a + suc n = omega arith in
     ap (range_with_len a) size
-    ∙ ap (λ xs. a ∷ xs) (range_both (a + 1) m n)
-    ∙ ap (λ b. a ∷ (range_with_len (a + 1) m ++ range_with_len b n)) from
-
-filter_none : (p : ℕ → Bool) (low n : ℕ) → ((x : ℕ) → low ≤ x → x < low + n → p x ≡ false)
-    → filter p (range_with_len low n) ≡ []
-filter_none p low zero none = refl
-filter_none p low (suc n) none =
-    ap (λ b. cond b (low ∷ filter p (range_with_len (low + 1) n)) (filter p (range_with_len (low + 1) n)))
-    (none low (omega arith) (omega arith))
-    ∙ filter_none p (low + 1) n (λ x a b. none x (omega arith) (omega arith))
+    ∙ ap (λ xs. a ∷ xs) (range_more (a + 1) n)
+    ∙ ap (λ b. a ∷ (range_with_len (a + 1) n ++ b ∷ [])) last
 
 module _ (p : ℕ → Bool) where
   -- the numbers from 1 on and below another that pass
   abbrev pub met : ℕ → List ℕ
   met upto = filter p (range_with_len 1 (upto - 1))
 
+  met_next : (upto : ℕ) → 1 ≤ upto → met (upto + 1) ≡ met upto ++ cond (p upto) (upto ∷ []) []
+  met_next upto some =
+      let size : upto + 1 - 1 ≡ (upto - 1) + 1 = omega arith in
+      let at : 1 + (upto - 1) ≡ upto = omega arith in
+      ap (λ n. filter p (range_with_len 1 n)) size
+      ∙ ap (filter p) (range_more 1 (upto - 1))
+      ∙ filter-append p (range_with_len 1 (upto - 1)) ((1 + (upto - 1)) ∷ [])
+      ∙ ap (λ b. met upto ++ filter p (b ∷ [])) at
+
   -- no number in between passes
   pub met_none : (upto top : ℕ) → 1 ≤ upto → upto ≤ top → ((x : ℕ) → upto ≤ x → x < top → p x ≡ false)
       → met top ≡ met upto
-  met_none upto top some l none =
-      let size : top - 1 ≡ (upto - 1) + (top - upto) = omega arith in
-      ap (λ n. filter p (range_with_len 1 n)) size
-      ∙ ap (filter p) (range_both 1 (upto - 1) (top - upto))
-      ∙ filter-append p (range_with_len 1 (upto - 1)) (range_with_len (1 + (upto - 1)) (top - upto))
-      ∙ ap (λ xs. met upto ++ xs)
-      (filter_none p (1 + (upto - 1)) (top - upto) (λ x a b. none x (omega arith) (omega arith)))
-      ∙ append-nil (met upto)
+  met_none upto top some l none = let all : top ≡ upto + (top - upto) = omega arith in
+      ap met all ∙ by (top - upto) (omega arith) where
+        by : (gap : ℕ) → upto + gap ≤ top → met (upto + gap) ≡ met upto
+        by zero within = let same : upto + 0 ≡ upto = omega arith in ap met same
+        by (suc gap) within =
+            let more : upto + suc gap ≡ upto + gap + 1 = omega arith in
+            ap met more
+            ∙ met_next (upto + gap) (omega arith)
+            ∙ ap (λ b. met (upto + gap) ++ cond b ((upto + gap) ∷ []) []) (none (upto + gap) (omega arith) (omega arith))
+            ∙ append-nil (met (upto + gap))
+            ∙ by gap (omega arith)
 
   -- one more passes
   pub met_more : (upto byte : ℕ) → 1 ≤ upto → upto ≤ byte → ((x : ℕ) → upto ≤ x → x < byte → p x ≡ false)
       → p byte ≡ true → met (byte + 1) ≡ met upto ++ byte ∷ []
   met_more upto byte some l none passes =
-      let size : byte + 1 - 1 ≡ (byte - 1) + 1 = omega arith in
-      let at : 1 + (byte - 1) ≡ byte = omega arith in
-      ap (λ n. filter p (range_with_len 1 n)) size
-      ∙ ap (filter p) (range_both 1 (byte - 1) 1)
-      ∙ filter-append p (range_with_len 1 (byte - 1)) (range_with_len (1 + (byte - 1)) 1)
-      ∙ ap (λ b. met byte ++ filter p (b ∷ [])) at
+      met_next byte (omega arith)
       ∙ ap (λ b. met byte ++ cond b (byte ∷ []) []) passes
       ∙ ap (λ xs. xs ++ byte ∷ []) (met_none upto byte some l none)
 

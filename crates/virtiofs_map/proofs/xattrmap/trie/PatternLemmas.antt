@@ -1,5 +1,5 @@
 -- The patterns of a side, gathered rule by rule, and in any order.
-use Rattle.std.proofs.Common.{◌≡◌, ◌≢◌, ℕ, zero, suc, ◌+◌, ◌*◌, ◌<◌, ◌≤◌, true, false, List, [], ◌∷◌, ◌++◌, length}
+use Rattle.std.proofs.Common.{◌≡◌, ◌≢◌, ℕ, zero, suc, ◌+◌, ◌*◌, ◌<◌, ◌≤◌, true, false, List, [], ◌∷◌, ◌++◌}
 use Rattle.std.proofs.Common.{append-nil, cond, filter, map, take, get_or, Some, inl, inr, sym, ap, subst, ◌∙◌, eq-eqb, arith, All}
 use Rattle.std.proofs.Common.{slice_get, IsPermutation, nat_cmp, is_lt, true≢false, lt-ltb, rules}
 use Rattle.std.specs.Cmp.Lexicographic.{slice_cmp}
@@ -7,12 +7,12 @@ use Rattle.std.specs.Ordering.{ordering_then}
 use Rattle.std.specs.declared.cmp.Ordering.{Ordering}
 use Rattle.std.proofs.lemmas.Bool.{cases_lt}
 use Rattle.std.proofs.lemmas.Bool.Decides.{nat_tests}
-use Rattle.std.proofs.lemmas.List.Sorted.{All-permutation, Contains-permutation, IsPermutation-map, IsPermutation-refl}
+use Rattle.std.proofs.lemmas.List.Sorted.{All-permutation, Contains-permutation, IsPermutation-append_left, IsPermutation-map}
 use Rattle.std.proofs.lemmas.List.Sorted.{IsPermutation-trans}
 use Rattle.std.proofs.lemmas.List.Elements.{All-contains, All-push, Contains-append_left, Contains-push, filter-append}
 use Rattle.std.proofs.lemmas.List.{map-append, take_all, take_more}
-use Rattle.std.proofs.lemmas.Option.{same_Some, slice_get_cases, slice_get_past, slice_get_within, get_or_from_slice_get}
-use Rattle.virtiofs_map.specs.NodeParts.{IsPatternAt, ArePatterns, ArePatternsBelow, patterns_on}
+use Rattle.std.proofs.lemmas.Option.{same_Some, slice_get_cases, slice_get_within, get_or_from_slice_get}
+use Rattle.virtiofs_map.specs.NodeParts.{IsPatternAt, ArePatterns, patterns_on}
 use Rattle.virtiofs_map.specs.FirstRule.{acts, pattern}
 use Rattle.virtiofs_map.specs.Rule.{HasNoZero, MappingRule, type_number}
 use Rattle.virtiofs_map.specs.declared.xattrmap.trie.patterns.Pattern.{Pattern}
@@ -41,14 +41,18 @@ texts_more side rules place rule here =
 -- the rule at the place has a pattern
 pub patterns_more : (side : Side) (rules : List MappingRule) (bytes : List ℕ) (place : ℕ) (patterns : List Pattern)
     (one : Pattern)
-    → ArePatternsBelow side rules bytes place patterns → IsPatternAt side rules bytes place one
-    → ArePatternsBelow side rules bytes (place + 1) (patterns ++ one ∷ [])
+    → ArePatterns side rules bytes place patterns → IsPatternAt side rules bytes place one
+    → ArePatterns side rules bytes (place + 1) (patterns ++ one ∷ [])
 patterns_more side rules bytes place patterns one below is = record {
-  texts = texts_more side rules place is.rule is.here
+  texts =
+      let all : patterns_on side (take (place + 1) rules) ≡ patterns_on side (take place rules) ++ one.bytes.now ∷ [] =
+      texts_more side rules place is.rule is.here
       ∙ ap (λ b. patterns_on side (take place rules) ++ map (pattern side) (cond b (is.rule ∷ []) [])) is.acting
-      ∙ ap (λ texts. texts ++ pattern side is.rule ∷ []) below.texts
-      ∙ ap (λ text. map (λ one. one.bytes.now) patterns ++ text ∷ []) (sym is.are)
-      ∙ sym (map-append (λ (p : Pattern). p.bytes.now) patterns (one ∷ []));
+      ∙ ap (λ text. patterns_on side (take place rules) ++ text ∷ []) (sym is.are) in
+      subst (λ texts. IsPermutation texts (map (λ (p : Pattern). p.bytes.now) (patterns ++ one ∷ []))) (sym all)
+      (subst (IsPermutation (patterns_on side (take place rules) ++ one.bytes.now ∷ []))
+      (sym (map-append (λ (p : Pattern). p.bytes.now) patterns (one ∷ [])))
+      (IsPermutation-append_left (one.bytes.now ∷ []) _ _ below.texts));
   each = search All-push;
   every = λ at rule before here acting. elim (cases_lt at place) [
     | inl earlier ↦
@@ -68,40 +72,32 @@ patterns_more side rules bytes place patterns one below is = record {
 
 -- it has none
 pub patterns_same : (side : Side) (rules : List MappingRule) (bytes : List ℕ) (place : ℕ) (patterns : List Pattern)
-    → ArePatternsBelow side rules bytes place patterns
+    → ArePatterns side rules bytes place patterns
     → ((rule : MappingRule) → slice_get rules place ≡ Some rule → acts side rule ≡ false)
-    → ArePatternsBelow side rules bytes (place + 1) patterns
+    → ArePatterns side rules bytes (place + 1) patterns
 patterns_same side rules bytes place patterns below none = record {
-  texts = elim (slice_get_cases rules place).1 [
+  texts = subst (λ texts. IsPermutation texts (map (λ (p : Pattern). p.bytes.now) patterns)) (elim (slice_get_cases rules place).1 [
     | inr (past, _) ↦
-        ap (patterns_on side) (take_all (place + 1) rules (omega arith) ∙ sym (take_all place rules past)) ∙ below.texts
-    | inl (rule, _, here, _) ↦
+        ap (patterns_on side) (take_all place rules past ∙ sym (take_all (place + 1) rules (omega arith)))
+    | inl (rule, _, here, _) ↦ sym (
         texts_more side rules place rule here
         ∙ ap (λ b. patterns_on side (take place rules) ++ map (pattern side) (cond b (rule ∷ []) [])) (none rule here)
-        ∙ append-nil (patterns_on side (take place rules)) ∙ below.texts
-  ];
+        ∙ append-nil (patterns_on side (take place rules)))
+  ]) below.texts;
   each = below.each;
   every = grind (arith, cases_lt, true≢false, slice_get);
 }
 
-pub patterns_whole : (side : Side) (rules : List MappingRule) (bytes : List ℕ) (end : ℕ) (patterns : List Pattern)
-    → ArePatternsBelow side rules bytes end patterns → length rules ≤ end → ArePatterns side rules bytes patterns
-patterns_whole side rules bytes end patterns below past = record {
-  texts = subst (IsPermutation (patterns_on side rules))
-      (ap (patterns_on side) (sym (take_all end rules past)) ∙ below.texts) (IsPermutation-refl (patterns_on side rules));
-  each = below.each;
-  every = grind (arith, cases_lt, slice_get_past);
-}
-
 -- in any order they are the patterns
-pub patterns-permutation : (side : Side) (rules : List MappingRule) (bytes : List ℕ) (patterns others : List Pattern)
-    → IsPermutation patterns others → ArePatterns side rules bytes patterns → ArePatterns side rules bytes others
-patterns-permutation side rules bytes patterns others moved are = record {
-  texts = IsPermutation-trans (patterns_on side rules) _ _ are.texts
+pub patterns-permutation : (side : Side) (rules : List MappingRule) (bytes : List ℕ) (end : ℕ)
+    (patterns others : List Pattern)
+    → IsPermutation patterns others → ArePatterns side rules bytes end patterns → ArePatterns side rules bytes end others
+patterns-permutation side rules bytes end patterns others moved are = record {
+  texts = IsPermutation-trans (patterns_on side (take end rules)) _ _ are.texts
       (IsPermutation-map (λ (p : Pattern). p.bytes.now) patterns others moved);
   each = search All-permutation;
-  every = λ at rule here acting.
-      let (one, stored, same, answer) = are.every at rule here acting in
+  every = λ at rule before here acting.
+      let (one, stored, same, answer) = are.every at rule before here acting in
       (one, Contains-permutation patterns others one moved stored, same, answer);
 }
 

@@ -4,17 +4,18 @@ use Rattle.std.proofs.Common.{take, drop, max, min, Contains, Option, Some, None
 use Rattle.std.proofs.Common.{arith, append_assoc, append-nil, slice_get, option_and_then, eqb-true, true≢false}
 use Rattle.std.proofs.Common.{length-drop, rules}
 use Rattle.std.specs.Option.{option_map_or}
-use Rattle.std.proofs.lemmas.Bool.{cond_both, and_from, and_parts}
+use Rattle.std.proofs.lemmas.Bool.{cond_both, and_from}
 use Rattle.std.proofs.lemmas.Bool.Decides.{Decides-eqb}
 use Rattle.std.proofs.lemmas.List.Sums.{common_prefix_len-le}
-use Rattle.std.proofs.lemmas.Option.{get_or_from_slice_get, slice_get_read, slice_get_within}
+use Rattle.std.proofs.lemmas.List.Elements.{Contains-append_right}
+use Rattle.std.proofs.lemmas.Option.{get_or_from_slice_get, slice_get_within}
 use Rattle.virtiofs_map.specs.FirstRule.{CountsLookup, acts, pattern, deciding_length, longest, shared, most_shared}
-use Rattle.virtiofs_map.specs.Names.{begins, deciding, first}
+use Rattle.virtiofs_map.specs.Names.{begins, first}
 use Rattle.virtiofs_map.specs.Rule.{MappingRule}
 use Rattle.virtiofs_map.specs.Steps.{count_after}
 use Rattle.virtiofs_map.specs.declared.xattrmap.scopes.Side.{Side}
-use Rattle.virtiofs_map.proofs.BeginsLemmas.{begins_split, deciding_fits}
-use Rattle.virtiofs_map.proofs.xattrmap.FittingLemmas.{fits_is}
+use Rattle.virtiofs_map.proofs.BeginsLemmas.{begins_split}
+use Rattle.virtiofs_map.proofs.xattrmap.DecidingLemmas.{first_at, fit_parts}
 use Rattle.virtiofs_map.proofs.xattrmap.PathLemmas.{no_longer}
 
 -- ---- two rows
@@ -82,59 +83,51 @@ shared_path path rest name p split goes_on =
 -- ---- the patterns of all rules
 
 -- a pattern shares no more than the most
-most_at_place : (side : Side) (rules : List MappingRule) (name : List ℕ) (at : ℕ) (rule : MappingRule)
-    → slice_get rules at ≡ Some rule → acts side rule ≡ true
-    → shared (pattern side rule) name ≤ most_shared side rules name
-most_at_place side [] name at rule e acting = absurd cc
-most_at_place side (r ∷ rules) name zero rule e acting = grind arith
-most_at_place side (r ∷ rules) name (suc at) rule e acting =
-    grind (arith, most_at_place side rules name at rule e acting)
-
 pub most_at_least : (side : Side) (rules : List MappingRule) (name : List ℕ) (rule : MappingRule) → Contains rules rule
     → acts side rule ≡ true → shared (pattern side rule) name ≤ most_shared side rules name
-most_at_least side rules name rule within acting = grind (arith, most_at_place, slice_get_read)
+most_at_least side [] name rule (at, below, is) acting = absurd (omega arith)
+most_at_least side (r ∷ rules) name rule (zero, below, is) acting = grind arith
+most_at_least side (r ∷ rules) name rule (suc at, below, is) acting =
+    let later = most_at_least side rules name rule (at, omega arith, is) acting in
+    grind arith
 
 -- what is no less than each is no less than the most
-most_below : (side : Side) (rules : List MappingRule) (name : List ℕ) (top : ℕ)
-    → ((at : ℕ) (rule : MappingRule) → slice_get rules at ≡ Some rule → acts side rule ≡ true
-    → shared (pattern side rule) name ≤ top) → most_shared side rules name ≤ top
-most_below side [] name top each = omega arith
-most_below side (r ∷ rules) name top each =
-    let later = most_below side rules name top (λ at rule e acting. each (suc at) rule e acting) in
-    cond_both (acts side r) (max (shared (pattern side r) name) (most_shared side rules name))
-    (most_shared side rules name) (λ n. n ≤ top)
-    (λ acting. omega (arith, later, each 0 r refl acting)) (λ _. later)
-
 pub most_at_most : (side : Side) (rules : List MappingRule) (name : List ℕ) (top : ℕ)
     → ((rule : MappingRule) → Contains rules rule → acts side rule ≡ true → shared (pattern side rule) name ≤ top)
     → most_shared side rules name ≤ top
-most_at_most side rules name top each =
-    most_below side rules name top
-    (λ at rule here acting. each rule
-    (search (slice_get_within, get_or_from_slice_get)) acting)
+most_at_most side [] name top each = omega arith
+most_at_most side (r ∷ rules) name top each =
+    let later = most_at_most side rules name top
+    (λ rule inside. each rule (Contains-append_right (r ∷ []) rules rule inside)) in
+    cond_both (acts side r) (max (shared (pattern side r) name) (most_shared side rules name))
+    (most_shared side rules name) (λ n. n ≤ top)
+    (λ acting. omega (arith, later, each r (0, omega arith, refl) acting)) (λ _. later)
 
 module _ (side : Side) (rules : List MappingRule) (name : List ℕ) where
   -- the pattern that decides is shared whole
   deciding_shared : deciding_length side rules name ≤ most_shared side rules name
-  deciding_shared = by_rule (deciding side rules name) refl where
-    by_rule : (o : Option MappingRule) → deciding side rules name ≡ o
-        → option_map_or (λ rule. length (pattern side rule)) o 0 ≤ most_shared side rules name
-    by_rule None e = omega arith
-    by_rule (Some rule) e = by_place (first side rules name) refl where
-      by_place : (place : Option ℕ) → first side rules name ≡ place
-          → length (pattern side rule) ≤ most_shared side rules name
-      by_place None none = absurd (let never = ap (option_and_then (slice_get rules)) none in cc)
-      by_place (Some at) some =
-          let here : slice_get rules at ≡ Some rule = sym (ap (option_and_then (slice_get rules)) some) ∙ e in
-          let both = and_parts (acts side rule) (begins (pattern side rule) name)
-          (sym (fits_is side name rule) ∙ deciding_fits side rules name rule (sym e)) in
-          omega (arith, shared_whole (pattern side rule) name both.1, most_at_place side rules name at rule here both.0)
+  deciding_shared = by (first side rules name) refl where
+    length_of : Option MappingRule → ℕ
+    length_of o = option_map_or (λ rule. length (pattern side rule)) o 0
+
+    by : (place : Option ℕ) → first side rules name ≡ place → deciding_length side rules name ≤ most_shared side rules name
+    by None none = omega (arith, ap length_of (ap (option_and_then (slice_get rules)) none))
+    by (Some at) some =
+        let is = first_at side rules name at some in
+        let (on, starts) = fit_parts side name is.rule is.fit in
+        omega (
+          arith,
+          ap length_of (ap (option_and_then (slice_get rules)) some ∙ is.here),
+          shared_whole (pattern side is.rule) name starts,
+          most_at_least side rules name is.rule
+              (at, slice_get_within rules at is.rule is.here, get_or_from_slice_get rules at is.rule is.rule is.here) on,
+        )
 
   most_within : most_shared side rules name ≤ length name
-  most_within = grind (arith, most_below, shared_within)
+  most_within = grind (arith, most_at_most, shared_within)
 
   most_longest : most_shared side rules name ≤ longest side rules
-  most_longest = grind (arith, most_below, shared_within, no_longer)
+  most_longest = grind (arith, most_at_most, shared_within, no_longer)
 
   -- so the count is between the least and the most
   pub lookup_counted : (before after : ℕ) → after ≡ count_after before (most_shared side rules name + 1)

@@ -1,12 +1,9 @@
-mod AnswerLemmas
 mod ChildrenLemmas
 mod BuiltTrieLemmas
 mod TrieBuildLemmas
-mod PatternTextLemmas
 mod FirstBytesLemmas
 mod KidLemmas
 mod PlacesLemmas
 mod BuiltSoFarLemmas
 mod RangePathLemmas
 mod PatternOrderLemmas
-mod AppendedRangeLemmas

@@ -2,8 +2,8 @@
 
 ghost use Rattle.std.specs.Prelude.{◌≡◌, ◌≢◌, ◌<◌, ◌≤◌, ◌+◌, ◌-◌, ℕ, List, take, length, slice_get, slice_index, All, Some, IfOk, OnOk};
 ghost use Rattle.virtiofs_map.specs.NodeParts.{AreFew, ArePatterns, AreTrieRows};
-ghost use Rattle.virtiofs_map.specs.TrieBuildParts.{text, number, start_of, AreReady, IsLeast, IsUpto, IsPatternRange};
-ghost use Rattle.virtiofs_map.specs.TrieBuildParts.{AreAdded, GoOnFrom, IsExpanded, IsRangeOrHole};
+ghost use Rattle.virtiofs_map.specs.TrieBuildParts.{text, pattern_at, AreReady, IsLeast, IsUpto, IsPatternRange};
+ghost use Rattle.virtiofs_map.specs.TrieBuildParts.{AreAdded, GoOnFrom, IsExpanded, IsGroup, IsKid, IsRangeOrHole};
 ghost use Rattle.virtiofs_map.specs.TrieBuildParts.{next_of, path_of_range, texts_of};
 ghost use Rattle.virtiofs_map.specs.PatternTrie.{are_sparse, next_bytes};
 ghost use Rattle.virtiofs_map.specs.Rule.{MappingRule};
@@ -43,31 +43,13 @@ const HOLE: PatternRange = PatternRange {
     first_byte: 0,
 };
 
-/// The bytes of a pattern.
-#[tactic(auto, using(crate::proofs::xattrmap::trie::build::PatternTextLemmas::text_read))]
-fn bytes_of<'b>(patterns: &[Pattern<'b>], at: usize) -> &'b [u8]
+/// The pattern at a place.
+#[tactic(auto, using(std::proofs::lemmas::List::get_or_read))]
+fn pattern_at<'p, 'b>(patterns: &'p [Pattern<'b>], at: usize) -> &'p Pattern<'b>
     requires { at < length patterns.now }
-    ensures { result.now ≡ text patterns.now at }
+    ensures { result.now ≡ pattern_at patterns.now at }
 {
-    patterns[at].bytes
-}
-
-/// Where a pattern begins among the bytes of all patterns.
-#[tactic(auto, using(crate::proofs::xattrmap::trie::build::PatternTextLemmas::start_of_read))]
-fn start_at(patterns: &[Pattern<'_>], at: usize) -> usize
-    requires { at < length patterns.now }
-    ensures { result ≡ start_of patterns.now at }
-{
-    patterns[at].start
-}
-
-/// The answer of a pattern.
-#[tactic(auto, using(crate::proofs::xattrmap::trie::build::PatternTextLemmas::number_read))]
-fn answer_at(patterns: &[Pattern<'_>], at: usize) -> u64
-    requires { at < length patterns.now }
-    ensures { result ≡ number patterns.now at }
-{
-    patterns[at].answer
+    &patterns[at]
 }
 
 /// The byte of a pattern at a depth; 0 where the pattern has ended.
@@ -75,7 +57,7 @@ fn byte_of(patterns: &[Pattern<'_>], at: usize, depth: usize) -> u8
     requires { at < length patterns.now }
     ensures { result ≡ slice_index (text patterns.now at) depth }
 {
-    match bytes_of(patterns, at).get(depth) {
+    match pattern_at(patterns, at).bytes.get(depth) {
         Some(byte) => *byte,
         None => 0,
     }
@@ -151,55 +133,45 @@ fn ended(patterns: &[Pattern<'_>], range: PatternRange) -> (usize, u64)
 {
     let mut answer = range.answer;
     for at in range.low..range.high {
-        if bytes_of(patterns, at).len() != range.depth {
+        let pattern = pattern_at(patterns, at);
+        if pattern.bytes.len() != range.depth {
             return (at, answer);
         }
-        answer = answer.min(answer_at(patterns, at));
+        answer = answer.min(pattern.answer);
     }
     (range.high, answer)
 }
 
-/// The range of the patterns between two places. They share their bytes up to a depth, and there.
+/// The child of a range that has the patterns between two places, all those that go on with one byte.
 fn child(
     patterns: &[Pattern<'_>],
-    depth: usize,
+    range: PatternRange,
     low: usize,
     high: usize,
     answer: u64,
 ) -> PatternRange
-    requires some { low < high }
-    requires within { high ≤ length patterns.now }
-    requires long { depth < length (text patterns.now low) }
+    requires within { range.high ≤ length patterns.now }
+    requires long { range.depth < length (text patterns.now low) }
+    requires group { IsGroup patterns.now range low high }
     ensures low { result.low ≡ low }
     ensures high { result.high ≡ high }
     ensures answer { result.answer ≡ answer }
-    ensures first_byte { result.first_byte ≡ slice_index (text patterns.now low) depth }
-    ensures byte { result.first_byte < 256 }
-    ensures depth { result.depth ≡ depth + 1 + result.length }
-    ensures size { result.length < 256 }
-    ensures long { result.depth ≤ length (text patterns.now low) }
-    ensures same { take (depth + 1) (text patterns.now low)
-        ≡ take (depth + 1) (text patterns.now (high - 1))
-        → take result.depth (text patterns.now low)
-        ≡ take result.depth (text patterns.now (high - 1)) }
-    ensures stops { result.length < 255 → result.depth < length (text patterns.now low)
-        → result.depth < length (text patterns.now (high - 1))
-        → slice_index (text patterns.now low) result.depth
-        ≢ slice_index (text patterns.now (high - 1)) result.depth }
+    ensures kid { IsKid patterns.now range result }
 {
-    let first = bytes_of(patterns, low);
+    let first = pattern_at(patterns, low).bytes;
+    let depth = range.depth + 1;
     let length = if high - low == 1 {
-        (first.len() - (depth + 1)).min(255)
+        (first.len() - depth).min(255)
     } else {
-        shared(first, bytes_of(patterns, high - 1), depth + 1)
+        shared(first, pattern_at(patterns, high - 1).bytes, depth)
     };
     PatternRange {
         low,
         high,
-        depth: depth + 1 + length,
+        depth: depth + length,
         answer,
         length: length as u8,
-        first_byte: byte_of(patterns, low, depth),
+        first_byte: byte_of(patterns, low, range.depth),
     }
 }
 
@@ -253,7 +225,7 @@ fn add_children<A: Allocator>(
             ranges.resize(base + usize::from(gap), HOLE)?;
         }
         let high = group_end(patterns, low, range.high, range.depth);
-        ranges.push(child(patterns, range.depth, low, high, answer))?;
+        ranges.push(child(patterns, range, low, high, answer))?;
         low = high;
     }
     Ok(())
@@ -285,7 +257,8 @@ fn node_of<A: Allocator>(
         return Ok(bare);
     }
     let (from, answer) = ended(patterns, range);
-    let label = start_at(patterns, range.low) + (range.depth - range.length as usize);
+    let first = pattern_at(patterns, range.low);
+    let label = first.start + (range.depth - range.length as usize);
     if from == range.high {
         return Ok(Node {
             answer,
@@ -310,7 +283,6 @@ fn node_of<A: Allocator>(
 /// Makes `rows` those of a trie of these patterns, which stand among `bytes`. The trie begins at a
 /// place that is counted in eights, and labels are counted from the first of the bytes. What `rows`
 /// and `ranges` had makes no difference.
-#[tactic(auto, using(crate::proofs::xattrmap::trie::build::TrieBuildLemmas::place_here))]
 pub(crate) fn build_trie<A: Allocator>(
     rows: &mut Vec<u8, A>,
     patterns: &[Pattern<'_>],
@@ -320,7 +292,7 @@ pub(crate) fn build_trie<A: Allocator>(
 ) -> Result<(), AllocError>
     requires { AreReady (length bytes.now) patterns.now }
     ensures { OnOk result ((side : Side) (rules : List MappingRule)
-        → ArePatterns side rules bytes.now patterns.now → AreFew rules
+        → ArePatterns side rules bytes.now (length rules) patterns.now → AreFew rules
         → AreTrieRows side rules bytes.now rows.new.items first) }
 {
     rows.clear();

@@ -83,13 +83,13 @@ pub(crate) fn are_same(one: &[u8], other: &[u8]) -> bool
     requires { length one.now ≡ length other.now }
     ensures { IsTrue result ↔ (one.now ≡ other.now) }
 {
+    if one.len() > 16 {
+        return are_long_same(one, other);
+    }
     if one.len() < 8 {
         return are_few_same(one, other);
     }
-    if one.len() <= 16 {
-        return are_medium_same(one, other);
-    }
-    are_long_same(one, other)
+    are_medium_same(one, other)
 }
 
 /// Whether two rows of a few bytes are the same.

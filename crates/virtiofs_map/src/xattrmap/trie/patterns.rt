@@ -55,29 +55,6 @@ fn pattern_at<A: Allocator>(rules: &Rules<A>, place: usize, side: Side) -> Optio
     })
 }
 
-/// Fills `patterns` with those of the rules that act on a side, in the order of the rules.
-fn fill_as_written<'r, A: Allocator>(
-    patterns: &mut Vec<Pattern<'r>, A>,
-    rules: &'r Rules<A>,
-    side: Side,
-) -> Result<(), AllocError>
-    requires few { AreFew rules.now.list }
-    requires plain { All HasNoZero rules.now.list }
-    ensures patterns { OnOk result
-        (ArePatterns side rules.now.list rules.now.bytes patterns.new.items) }
-    ensures ready { OnOk result
-        (All (IsReady (length rules.now.bytes)) patterns.new.items) }
-{
-    patterns.clear();
-    for place in 0..rules.len() {
-        let Some(pattern) = pattern_at(rules, place, side) else {
-            continue;
-        };
-        patterns.push(pattern)?;
-    }
-    Ok(())
-}
-
 /// Fills `patterns` with those of the rules that act on a side, in the order of their bytes.
 pub(crate) fn fill_patterns<'r, A: Allocator>(
     patterns: &mut Vec<Pattern<'r>, A>,
@@ -87,10 +64,16 @@ pub(crate) fn fill_patterns<'r, A: Allocator>(
     requires few { AreFew rules.now.list }
     requires plain { All HasNoZero rules.now.list }
     ensures patterns { OnOk result
-        (ArePatterns side rules.now.list rules.now.bytes patterns.new.items) }
+        (ArePatterns side rules.now.list rules.now.bytes (length rules.now.list) patterns.new.items) }
     ensures ready { OnOk result (AreReady (length rules.now.bytes) patterns.new.items) }
 {
-    fill_as_written(patterns, rules, side)?;
+    patterns.clear();
+    for place in 0..rules.len() {
+        let Some(pattern) = pattern_at(rules, place, side) else {
+            continue;
+        };
+        patterns.push(pattern)?;
+    }
     patterns.sort_unstable_by(|one, other| one.order(other));
     Ok(())
 }

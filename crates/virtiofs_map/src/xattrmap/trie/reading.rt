@@ -157,6 +157,7 @@ impl<'a> Rows<'a> {
     }
 
     /// How many bytes a row of bytes shares with `count` bytes of the map from a place on.
+    #[tactic(auto, using(crate::proofs::xattrmap::trie::SharedLemmas::shared_within))]
     fn shared(self, row: &[u8], from: usize, count: usize) -> u64
         requires from { from < 281474976710656 }
         requires count { count < 256 }

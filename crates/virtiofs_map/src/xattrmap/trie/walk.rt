@@ -1,7 +1,7 @@
 //! Walks along a trie.
 
 ghost use Rattle.std.specs.Prelude.{◌≡◌, ◌≤◌, true, ℕ, List, length};
-ghost use Rattle.virtiofs_map.specs.NodeParts.{CountsWalk, IsTrieIn, Passes};
+ghost use Rattle.virtiofs_map.specs.NodeParts.{IsTrieIn, Passes};
 ghost use Rattle.virtiofs_map.specs.FirstRule.{CountsFronts, CountsLookup};
 ghost use Rattle.virtiofs_map.specs.Names.{first};
 ghost use Rattle.virtiofs_map.specs.Rule.{MappingRule};
@@ -24,8 +24,7 @@ fn walk(trie: Trie<'_>, name: &[u8], whole_count: bool, steps: &mut Steps) -> (u
         → Passes side rules name.now result.0 result.1 }
     ensures counts { (side : Side) (rules : List MappingRule) (end labels : ℕ) (bytes : List ℕ)
         → IsTrieIn side rules trie.entry.rows.image.now trie.entry.root end labels bytes
-        → whole_count ≡ true
-        → CountsWalk side rules name.now result.0 steps.old steps.new }
+        → whole_count ≡ true → CountsFronts side rules name.now steps.old steps.new }
     ensures within { result.1 ≤ length name.now }
 {
     let mut row = trie.root(steps);

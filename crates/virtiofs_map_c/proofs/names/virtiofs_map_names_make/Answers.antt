@@ -1,7 +1,6 @@
-use Rattle.std.proofs.Common.{rules}
 use Rattle.virtiofs_map_c.proofs.MakesLemmas.{refused_complete, refused_faulty}
 use Rattle.virtiofs_map_c.proofs.RulesLemmas.{BytesSayRules-no_fault, HasBytesFault-one}
-use Rattle.virtiofs_map_c.specs.Rules.{HasBytesFault, IsBytesTold}
+use Rattle.virtiofs_map_c.specs.Texts.{HasBytesFault, IsBytesTold}
 use Rattle.virtiofs_map_c.proofs.names.virtiofs_map_names_make.Goals as goal
 
 pub returns-in-Ok-clause-faulty : goal.returns-in-Ok-clause-faulty
@@ -11,16 +10,12 @@ returns-in-Ok-clause-faulty c = λ wrong has.
 
 pub returns-in-Err-clause-complete : goal.returns-in-Err-clause-complete
 returns-in-Err-clause-complete c = λ rules says.
-    refused_complete _ (HasBytesFault _) (IsBytesTold _ _ _ _) (_, c.in-Err.ensures.refused, c.tell_of_rules.ensures)
-    (λ fault. BytesSayRules-no_fault _ rules fault says)
+    rw (c.tell.ensures.code, c.tell.ensures.told)
+    (refused_complete _ (HasBytesFault _) (IsBytesTold _ _ _ _) c.in-Err.ensures.refused
+    (λ fault. BytesSayRules-no_fault _ rules fault says))
 
 pub returns-in-Err-clause-faulty : goal.returns-in-Err-clause-faulty
 returns-in-Err-clause-faulty c = λ wrong has.
-    refused_faulty (HasBytesFault _) (IsBytesTold _ _ _ _) (_, c.in-Err.ensures.refused, c.tell_of_rules.ensures) wrong
-    (λ other it. HasBytesFault-one _ other wrong it has)
-
-pub returns-in-Ok-clause-made : goal.returns-in-Ok-clause-made
-returns-in-Ok-clause-made c = λ _. rw c.set.ensures.code c.in-Ok.ensures.made
-
-pub returns-in-Err-clause-refused : goal.returns-in-Err-clause-refused
-returns-in-Err-clause-refused c = λ _. (_, c.in-Err.ensures.refused, c.tell_of_rules.ensures)
+    rw (c.tell.ensures.code, c.tell.ensures.told)
+    (refused_faulty (HasBytesFault _) (IsBytesTold _ _ _ _) c.in-Err.ensures.refused wrong
+    (λ other it. HasBytesFault-one _ other wrong it has))

@@ -1,5 +1,5 @@
 use Rattle.std.proofs.Common.{rules, arith}
-use Rattle.virtiofs_map_c.specs.Front.{IsFront}
+use Rattle.virtiofs_map_c.specs.Replies.{IsFront}
 use Rattle.virtiofs_map_c.proofs.FrontLemmas.{IsFront-start, front-told, front-cut}
 use Rattle.virtiofs_map_c.proofs.sentences.virtiofs_map_fault_text.Goals as goal
 

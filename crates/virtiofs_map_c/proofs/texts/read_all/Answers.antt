@@ -1,34 +1,24 @@
-use Rattle.std.proofs.Common.{ℕ, Option, arith, rules}
-use Rattle.std.proofs.lemmas.List.{take_all}
+use Rattle.std.proofs.Common.{◌∙◌, None, refl}
 use Rattle.std.proofs.lemmas.Result.{err_from_is_err_and}
-use Rattle.std.specs.Option.{option_map}
-use Rattle.core.specs.declared.str.parse.IntErrorKind.{IntErrorKind}
-use Rattle.virtiofs_map_c.specs.Lists.{Unread}
-use Rattle.virtiofs_map_c.specs.Texts.{TextFault, IsNumberError, IsNumberErrorIn, LentSays, LentHas}
-use Rattle.virtiofs_map_c.proofs.ListsLemmas.{says_more, unread_here}
+use Rattle.virtiofs_map_c.specs.Texts.{LentSays, LentHas}
+use Rattle.virtiofs_map_c.proofs.ListsLemmas.{says_more}
+use Rattle.virtiofs_map_c.proofs.TextsLemmas.{texts_unread}
 use Rattle.virtiofs_map_c.proofs.texts.read_all.Goals as goal
 
+pub returns-in_err-spec-clause-refused : goal.returns-in_err-spec-clause-refused
+returns-in_err-spec-clause-refused c =
+    let (told, is, same) = err_from_is_err_and c.from_residual.result c.from_residual.ensures.1 in
+    rw (is, same) (texts_unread _ _ _ _ _ _ _ _ c.loop-place-test.true c.loop-place.invariant.are
+    c.loop-place.invariant.same c.in_err-spec.ensures.refused)
+
+pub returns-in_err-push-clause-refused : goal.returns-in_err-push-clause-refused
+returns-in_err-push-clause-refused c =
+    let (told, is, numbers) = err_from_is_err_and c.from_residual-in_err-push.result c.from_residual-in_err-push.ensures.1 in
+    rw is (None, tt, (refl, numbers, c.in_ok-spec.ensures.unquoted ∙ c.loop-place.invariant.same))
+
 pub loop-place-preserved : goal.loop-place-preserved
-loop-place-preserved c =
-    rw c.in_ok-push-in-Ok.ensures.items
-    (says_more LentSays LentHas _ _ _ _ _ c.loop-place-test.true c.loop-place.invariant c.in-Ok.ensures.read)
-
-pub returns-in-Err-clause-refused : goal.returns-in-Err-clause-refused
-returns-in-Err-clause-refused c =
-    unread_here LentSays LentHas c.args.texts.now _ _ _ _ c.loop-place-test.true c.loop-place.invariant c.in-Err.ensures.refused
-
-pub returns-in_err-push-in-Ok-clause-refused : goal.returns-in_err-push-in-Ok-clause-refused
-returns-in_err-push-in-Ok-clause-refused c = search (rules, err_from_is_err_and)
-
-pub returns-in_err-push-in-Ok-clause-explained : goal.returns-in_err-push-in-Ok-clause-explained
-returns-in_err-push-in-Ok-clause-explained c = search (rules, err_from_is_err_and)
-
-explained-here : (place : ℕ) (fault : Option TextFault) (kind : IntErrorKind) → IsNumberError fault kind
-    → IsNumberErrorIn (option_map (Unread place) fault) kind
-explained-here place fault kind is = grind arith
-
-pub returns-in-Err-clause-explained : goal.returns-in-Err-clause-explained
-returns-in-Err-clause-explained c = explained-here _ _ _ c.in-Err.ensures.explained
-
-pub returns-clause-read : goal.returns-clause-read
-returns-clause-read c = search (rules, take_all)
+loop-place-preserved c = record {
+  are = rw c.in_ok-push.ensures.items
+      (says_more LentSays LentHas _ _ _ _ _ c.loop-place-test.true c.loop-place.invariant.are c.in_ok-spec.ensures.read);
+  same = c.in_ok-spec.ensures.unquoted ∙ c.loop-place.invariant.same;
+}

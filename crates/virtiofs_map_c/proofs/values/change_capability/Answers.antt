@@ -7,7 +7,7 @@ use Rattle.virtiofs_map_c.proofs.values.change_capability.Goals as goal
 pub returns-clause-answer : goal.returns-clause-answer
 returns-clause-answer c = λ specs users.
     tells_capability specs _ _ _ _ _ _ c.tell_capability.ensures
-    (c.translate_capability-answer.ensures.change specs (rw c.in-Some.ensures.words (c.all_of.ensures.map specs users)))
+    (c.translate_capability.ensures.change specs (rw c.in-Some.ensures.words (c.all_of.ensures.map specs users)))
 
 pub returns-clause-unchanged : goal.returns-clause-unchanged
 returns-clause-unchanged c = search (rules, told_unchanged)

@@ -11,4 +11,4 @@ pub returns-clause-no_fault : goal.returns-clause-no_fault
 returns-clause-no_fault c = told_no_fault IsCapabilityTold _ _ _ capability_fails_otherwise c.tell_capability.ensures
 
 pub returns-clause-code : goal.returns-clause-code
-returns-clause-code c = tells_root_code _ _ _ c.tell_capability.ensures c.write_revision_3-answer.ensures.has_field
+returns-clause-code c = tells_root_code _ _ _ c.tell_capability.ensures c.write_revision_3.ensures.has_field

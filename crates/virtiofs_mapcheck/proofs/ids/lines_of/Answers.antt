@@ -1,5 +1,3 @@
-use Rattle.std.proofs.Common.{rules}
-use Rattle.std.proofs.lemmas.List.{take_all}
 use Rattle.virtiofs_mapcheck.proofs.QueryLineLemmas.{lines_more}
 use Rattle.virtiofs_mapcheck.proofs.ids.lines_of.Goals as goal
 
@@ -8,6 +6,3 @@ loop-query-preserved g c =
     let (lines, answered, whole) = c.loop-query.invariant in
     let (line, is, same) = c.in_ok-push_line.ensures in
     lines_more _ _ _ _ lines line _ _ c.loop-query-test.true answered is whole same
-
-pub returns : goal.returns
-returns g c = search (rules, take_all)

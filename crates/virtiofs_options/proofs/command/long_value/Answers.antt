@@ -1,5 +1,5 @@
 use Rattle.std.proofs.Common.{ℕ, List, get_or, ap}
-use Rattle.virtiofs_options.proofs.WordLemmas.{joins_long}
+use Rattle.virtiofs_options.proofs.TextLemmas.{joins_long}
 use Rattle.virtiofs_options.proofs.command.long_value.Goals as goal
 
 pub returns : goal.returns

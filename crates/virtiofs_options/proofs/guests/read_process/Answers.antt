@@ -1,8 +1,6 @@
-use Rattle.std.proofs.Common.{◌∙◌, ◌++◌, ℕ, List, Bor, drop, map, sym, ap, subst}
+use Rattle.std.proofs.Common.{sym}
 use Rattle.virtiofs_options.proofs.GuestsLemmas.{WrongOnly-map}
-use Rattle.virtiofs_options.specs.Guests.{IsLine, IsLineFault}
-use Rattle.virtiofs_options.specs.Lines.{line_of}
-use Rattle.virtiofs_options.specs.Unknown.{told}
+use Rattle.virtiofs_options.specs.Guests.{IsLineFault}
 use Rattle.virtiofs_options.proofs.guests.read_process.Goals as goal
 
 pub returns-in-Ok-clause-read : goal.returns-in-Ok-clause-read
@@ -13,10 +11,7 @@ returns-in-Ok-clause-read c =
       (
         c.new-first.result,
         c.new-first.ensures,
-        subst (IsLine c.args.options c.args.number c.new-first.result (line_of (drop c.in-Some.start c.args.words.now)) c.in-Ok.guest)
-            (sym (said ∙ ap (λ xs. map told xs ++ here) c.new-unknown.ensures.items))
-            (subst (λ (it : List (Bor (List ℕ))). IsLine c.args.options c.args.number c.new-first.result it c.in-Ok.guest here)
-            (c.line_of-line.ensures ∙ ap line_of c.tail_of.ensures) line),
+        rw (said, c.new-unknown.ensures.items) (rw (c.line_of-line.ensures, c.tail_of.ensures) at line),
       ),
     )
 
@@ -26,7 +21,6 @@ returns-clause-refused c =
     (λ fault wrong. (
       c.in-Some.start,
       sym c.in-Some.ensures.first,
-      subst (λ (it : List (Bor (List ℕ))). IsLineFault c.args.options it fault)
-          (c.line_of-line.ensures ∙ ap line_of c.tail_of.ensures) wrong,
+      rw (c.line_of-line.ensures, c.tail_of.ensures) at wrong,
     ))
     c.in-Err.ensures.refused

@@ -1,20 +1,22 @@
-use Rattle.std.proofs.Common.{rules, arith}
+use Rattle.std.proofs.Common.{refl, sym}
 use Rattle.std.proofs.lemmas.Bool.{true≢false}
-use Rattle.std.proofs.lemmas.List.{take_all}
-use Rattle.virtiofs_findings.proofs.ListLemmas.{AnyHas-at, AnyHas-none}
-use Rattle.virtiofs_findings.proofs.TestLemmas.{decides_not}
+use Rattle.virtiofs_findings.specs.Advice.{IsNew}
+use Rattle.virtiofs_findings.proofs.ListLemmas.{all_at, any_none, decides_not}
 use Rattle.virtiofs_findings.proofs.advice.better.has_new.Goals as goal
 
 pub loop-finding-preserved : goal.loop-finding-preserved
 loop-finding-preserved g c =
-    AnyHas-none _ _ _ _
-    c.finding-item.is c.loop-finding-test.true c.loop-finding.invariant (decides_not _ c.is_new.ensures c.if-is_new.false)
+    all_at (λ it. ¬ IsNew c.args.accepted.now c.args.others.now it) c.args.found.now c.loop-finding.finding-index c.finding-item.result c.finding-item.is
+    c.loop-finding-test.true c.loop-finding.invariant (decides_not _ c.is_new.ensures c.if-is_new.false)
 
 pub returns-then-is_new : goal.returns-then-is_new
 returns-then-is_new g c = (
-  (λ _. AnyHas-at _ _ _ _ c.loop-finding-test.true (rw c.finding-item.is at (c.is_new.ensures.0 c.if-is_new.true))),
-  (λ _. search rules),
+  (λ _. (c.loop-finding.finding-index, c.finding-item.result, c.loop-finding-test.true, sym c.finding-item.is, c.is_new.ensures.0 c.if-is_new.true)),
+  (λ _. refl),
 )
 
 pub returns : goal.returns
-returns g c = grind (arith, true≢false, take_all, c.loop-finding.invariant, c.loop-finding-test.false)
+returns g c = (
+  (λ yes. absurd (true≢false (sym yes))),
+  (λ some. absurd (any_none (IsNew c.args.accepted.now c.args.others.now) c.args.found.now _ c.loop-finding-test.false c.loop-finding.invariant some)),
+)

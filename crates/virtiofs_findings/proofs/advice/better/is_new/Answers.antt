@@ -1,5 +1,4 @@
-use Rattle.std.proofs.Common.{arith}
-use Rattle.virtiofs_findings.proofs.TestLemmas.{decides_not, denied}
+use Rattle.virtiofs_findings.proofs.ListLemmas.{decides_not, denied}
 use Rattle.virtiofs_findings.proofs.advice.better.is_new.Goals as goal
 
 pub returns-then-not-is_accepted : goal.returns-then-not-is_accepted
@@ -10,4 +9,8 @@ returns-then-not-is_accepted g c =
     )
 
 pub returns-else-not-is_accepted : goal.returns-else-not-is_accepted
-returns-else-not-is_accepted g c = grind (arith, denied, c.is_accepted.ensures, c.if-not-is_accepted.false)
+returns-else-not-is_accepted g c = (
+  (λ is. absurd ((denied c.is_accepted.result c.is_accepted.ensures).0 is
+      (c.is_accepted.ensures.0 c.if-not-is_accepted.false))),
+  (λ new. absurd (new.0 (c.is_accepted.ensures.0 c.if-not-is_accepted.false))),
+)

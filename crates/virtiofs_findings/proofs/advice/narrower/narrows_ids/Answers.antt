@@ -1,7 +1,7 @@
 use Rattle.std.proofs.Common.{◌∙◌, subst, sym}
 use Rattle.virtiofs_findings.specs.Narrower.{NarrowerIds}
 use Rattle.virtiofs_findings.proofs.NarrowerLemmas.{narrower_self}
-use Rattle.virtiofs_findings.proofs.TestLemmas.{decides_not}
+use Rattle.virtiofs_findings.proofs.ListLemmas.{decides_not}
 use Rattle.virtiofs_findings.proofs.advice.narrower.narrows_ids.Goals as goal
 
 pub returns-then-are_same-clause-narrower : goal.returns-then-are_same-clause-narrower

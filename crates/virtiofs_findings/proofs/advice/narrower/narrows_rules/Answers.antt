@@ -2,7 +2,7 @@ use Rattle.std.proofs.Common.{◌≡◌, ◌<◌, ◌∙◌, ◌+◌, ap, arith,
 use Rattle.std.proofs.lemmas.Option.{slice_get-get_or}
 use Rattle.virtiofs_findings.specs.Narrower.{deny_all}
 use Rattle.virtiofs_findings.proofs.NarrowerLemmas.{agree_dropped, agree_kept, agree_none, narrower_rules, same_here}
-use Rattle.virtiofs_findings.proofs.TestLemmas.{decides_not}
+use Rattle.virtiofs_findings.proofs.ListLemmas.{decides_not}
 use Rattle.virtiofs_findings.proofs.advice.narrower.narrows_rules.Goals as goal
 use Rattle.virtiofs_findings.proofs.advice.narrower.narrows_rules.Goals.{then-is_same_at, else-is_same_at+else-decides}
 

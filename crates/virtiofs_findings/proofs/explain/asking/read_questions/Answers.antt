@@ -1,6 +1,8 @@
 use Rattle.std.proofs.lemmas.Option.{slice_get-get_or}
-use Rattle.std.proofs.Common.{arith}
-use Rattle.virtiofs_findings.proofs.ExplainQuestionLemmas.{asks_more}
+use Rattle.std.proofs.Common.{ℕ, List, arith}
+use Rattle.std.specs.Borrow.{Bor}
+use Rattle.virtiofs_findings.specs.ExplainQuestion.{Asks}
+use Rattle.virtiofs_findings.proofs.ListLemmas.{zip_at}
 use Rattle.virtiofs_findings.proofs.explain.asking.read_questions.Goals as goal
 
 pub returns-in-Err : goal.returns-in-Err
@@ -11,6 +13,6 @@ returns-in-Err c = (
 
 pub loop-place-preserved : goal.loop-place-preserved
 loop-place-preserved c =
-    rw c.in_ok-push-in-Ok.ensures.items
-    (asks_more c.args.texts.now c.loop-place.place _ c.loop-place.questions.items c.in-Ok.question c.loop-place-test.true
-    c.loop-place.invariant c.in-Ok.ensures.read)
+    rw c.in_ok-push-in-Ok.ensures.items (zip_at (λ (it : Bor (List ℕ)). Asks it.now) c.args.texts.now
+    c.loop-place.questions.items c.loop-place.place _ c.in-Ok.question c.loop-place-test.true c.loop-place.invariant
+    c.in-Ok.ensures.read)

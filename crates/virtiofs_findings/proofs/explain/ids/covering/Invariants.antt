@@ -1,6 +1,6 @@
 -- none of the specifications so far covers the id
 use Rattle.std.proofs.Common.{take}
-use Rattle.virtiofs_findings.specs.Covers.{CoversNone}
+use Rattle.virtiofs_findings.specs.IdFindings.{CoversNone}
 use Rattle.virtiofs_findings.proofs.explain.ids.covering.Given as goal
 
 abbrev pub invariant-loop-place : goal.invariant-loop-place

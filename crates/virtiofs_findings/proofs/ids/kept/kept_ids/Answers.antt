@@ -1,5 +1,5 @@
 use Rattle.virtiofs_findings.proofs.KeptLemmas.{kept_made}
-use Rattle.virtiofs_findings.proofs.TestLemmas.{decides_not}
+use Rattle.virtiofs_findings.proofs.ListLemmas.{decides_not}
 use Rattle.virtiofs_findings.proofs.ids.kept.kept_ids.Goals as goal
 
 pub returns-then-not-are_mapped : goal.returns-then-not-are_mapped

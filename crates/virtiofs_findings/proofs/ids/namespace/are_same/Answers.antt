@@ -1,7 +1,7 @@
 use Rattle.std.proofs.Common.{arith}
 use Rattle.std.proofs.lemmas.Bool.{true≢false}
 use Rattle.virtiofs_findings.proofs.NamespaceLemmas.{agree_all, same_around}
-use Rattle.virtiofs_findings.proofs.TestLemmas.{decides_not}
+use Rattle.virtiofs_findings.proofs.ListLemmas.{decides_not}
 use Rattle.virtiofs_findings.proofs.ids.namespace.are_same.Goals as goal
 
 pub returns-then-not-agree_around_all : goal.returns-then-not-agree_around_all

@@ -1,5 +1,5 @@
 use Rattle.std.proofs.Common.{arith, ◌≤◌, subst, sym}
-use Rattle.virtiofs_findings.proofs.TestLemmas.{decides_not}
+use Rattle.virtiofs_findings.proofs.ListLemmas.{decides_not}
 use Rattle.virtiofs_findings.proofs.RangeLemmas.{none_wrong}
 use Rattle.virtiofs_findings.proofs.ids.ranges.fault_of.Goals as goal
 

@@ -1,4 +1,4 @@
-use Rattle.virtiofs_findings.proofs.TestLemmas.{denied}
+use Rattle.virtiofs_findings.proofs.ListLemmas.{denied}
 use Rattle.std.proofs.Common.{arith, option_map}
 use Rattle.virtiofs_findings.proofs.ids.ranges.is_refused.Goals as goal
 

@@ -1,5 +1,5 @@
 use Rattle.std.proofs.Common.{arith}
-use Rattle.virtiofs_findings.proofs.TestLemmas.{decides_not}
+use Rattle.virtiofs_findings.proofs.ListLemmas.{decides_not}
 use Rattle.virtiofs_findings.proofs.RangeLemmas.{none_met, all_unmet}
 use Rattle.virtiofs_findings.proofs.ids.ranges.meeting.Goals as goal
 

@@ -1,7 +1,7 @@
 use Rattle.std.proofs.Common.{inl, inr, arith, subst, sym}
 use Rattle.std.proofs.lemmas.Bool.{cases_lt, true≢false}
 use Rattle.virtiofs_map.specs.Audit.{Decides}
-use Rattle.virtiofs_findings.proofs.TestLemmas.{decides_not}
+use Rattle.virtiofs_findings.proofs.ListLemmas.{decides_not}
 use Rattle.virtiofs_findings.proofs.names.audits.decides_from.Goals as goal
 
 pub loop-part-preserved : goal.loop-part-preserved

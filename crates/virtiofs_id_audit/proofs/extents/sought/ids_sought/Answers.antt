@@ -1,5 +1,5 @@
-use Rattle.std.proofs.Common.{refl, arith}
-use Rattle.virtiofs_id_audit.specs.ExtentParts.{IsSought}
+use Rattle.std.proofs.Common.{refl}
+use Rattle.virtiofs_id_audit.specs.IdAuditParts.{IsSought}
 use Rattle.virtiofs_id_audit.specs.IdAudit.{Hold}
 use Rattle.virtiofs_id_audit.proofs.SpanLemmas.{HoldBelow-pass, HoldBelow-push}
 use Rattle.virtiofs_id_audit.proofs.extents.sought.SoughtLemmas.{all_sought, all_below}

@@ -1,7 +1,6 @@
 use Rattle.std.proofs.Common.{◌-◌}
-use Rattle.virtiofs_id_audit.specs.ExtentParts.{IsSought}
 use Rattle.virtiofs_id_audit.specs.IdAudit.{Hold}
-use Rattle.virtiofs_id_audit.specs.IdAuditParts.{HoldBelow}
+use Rattle.virtiofs_id_audit.specs.IdAuditParts.{HoldBelow, IsSought}
 use Rattle.virtiofs_id_audit.proofs.extents.sought.ids_sought.Given as goal
 
 -- the spans have those of the ids so far

@@ -1,4 +1,4 @@
-use Rattle.std.proofs.Common.{refl, arith}
+use Rattle.std.proofs.Common.{arith}
 use Rattle.virtiofs_id_audit.proofs.extents.starts.StartLemmas.{StartsSoFar-push, AreStarts-merged}
 use Rattle.virtiofs_id_audit.proofs.extents.starts.starts_of.Goals as goal
 

@@ -1,11 +1,8 @@
-use Rattle.std.proofs.Common.{◌*◌, List, length}
-use Rattle.virtiofs_map.specs.AuditParts.{IsAskedOf, IsBad, IsLiveRest, Tries}
-use Rattle.virtiofs_map.specs.Rule.{MappingRule}
-use Rattle.virtiofs_map.proofs.audit.AuditTriedLemmas.{LedBelow}
+use Rattle.virtiofs_map.specs.AuditParts.{AllTried}
+use Rattle.virtiofs_map.proofs.audit.AuditTriedLemmas.{IsAfter, LedBelow}
 use Rattle.virtiofs_map.proofs.audit.candidates.try_rests.Given as goal
 
--- what is left after the added prefixes before that place was tried
+-- what is left of the patterns before that place was tried
 abbrev pub invariant-loop-place : goal.invariant-loop-place
-invariant-loop-place g l = (rules others : List MappingRule) → IsAskedOf l.question rules others
-    → Tries (IsBad l.question rules others) (LedBelow l.all_added l.place (IsLiveRest rules l.patterns))
-    (l.place * length l.patterns) l.initial.tried l.tried
+invariant-loop-place g l =
+    AllTried l.question (λ rules. LedBelow l.patterns l.place (IsAfter rules l.added)) l.place l.initial.tried l.tried

@@ -1,16 +1,15 @@
-use Rattle.std.proofs.Common.{◌≡◌, List, ℕ, ◌++◌, append-nil, sym, ap, subst, ◌∙◌, arith, rules}
+use Rattle.std.proofs.Common.{◌≡◌, List, [], ℕ, ◌++◌, append-nil, sym, ap, subst, ◌∙◌, arith, rules}
 use Rattle.std.specs.Cmp.Lexicographic.{slice_cmp, nat_list_cmp_total}
 use Rattle.std.specs.Ordering.{nat_cmp, is_lt}
 use Rattle.std.proofs.lemmas.List.Sorted.{ranks_by, answers_always}
 use Rattle.std.proofs.lemmas.List.{drop_all}
-use Rattle.std.specs.List.{filter_map}
+use Rattle.std.specs.List.{cons_option, filter_map}
 use Rattle.std.specs.List.Sorted.{IsPermutation}
-use Rattle.virtiofs_map.specs.GatheredParts.{part_of}
-use Rattle.virtiofs_map.specs.Rule.{HasNoZero}
+use Rattle.virtiofs_map.specs.AuditParts.{part_of}
 use Rattle.virtiofs_map.specs.RuleParts.{rule_meant}
 use Rattle.virtiofs_map.proofs.AuditAddedLemmas.{none_is}
 use Rattle.virtiofs_map.proofs.RuleRowLemmas.{there}
-use Rattle.virtiofs_map.proofs.audit.AuditGatheredLemmas.{bytes_left, bytes_within, gathered_some, gathered_none, rule_has}
+use Rattle.virtiofs_map.proofs.audit.AuditGatheredLemmas.{bytes_left, bytes_within, gathered_more}
 use Rattle.virtiofs_map.proofs.audit.gathered.gathered.Goals as goal
 
 pub loop-place-init : goal.loop-place-init
@@ -24,11 +23,9 @@ loop-place-preserved g c = λ rules is.
     let here = c.in-Some.ensures rules is in
     let so_far = c.loop-place.invariant rules is in
     let left = bytes_left rules c.loop-place.place (rule_meant c.in-Some.rule) here in (
-      gathered_some (part_of c.args.part) rules c.loop-place.place (rule_meant c.in-Some.rule)
-          c.loop-place.names.items _ _ c.in_ok-name.field-0 c.in-Some-2.name here so_far.0
-          (c.in_ok-name.ensures
-          (rule_has HasNoZero rules c.loop-place.place (rule_meant c.in-Some.rule) is.no_zero here))
-          c.in-Some-2.is c.in_ok-push.ensures.items,
+      gathered_more (part_of c.args.part) rules c.loop-place.place (rule_meant c.in-Some.rule)
+          c.loop-place.names.items is.no_zero here so_far.0 c.in_ok-name.ensures
+          (c.in_ok-push.ensures.items ∙ ap (λ o. c.loop-place.names.items ++ cons_option o []) (sym c.in-Some-2.is)),
       omega (arith, so_far.1),
     )
 
@@ -47,12 +44,12 @@ pub loop-place-preserved-in_default-2 : goal.loop-place-preserved-in_default-2
 loop-place-preserved-in_default-2 g c = λ rules is.
     let here = c.in-Some.ensures rules is in
     let so_far = c.loop-place.invariant rules is in
+    let names = c.loop-place.names.items in
     let left = bytes_left rules c.loop-place.place (rule_meant c.in-Some.rule) here in (
-      gathered_none (part_of c.args.part) rules c.loop-place.place (rule_meant c.in-Some.rule)
-          c.loop-place.names.items _ c.in_ok-name.field-0 here so_far.0
-          (c.in_ok-name.ensures
-          (rule_has HasNoZero rules c.loop-place.place (rule_meant c.in-Some.rule) is.no_zero here))
-          (none_is c.in_ok-name.field-0 c.in_default-2.not-Some),
+      gathered_more (part_of c.args.part) rules c.loop-place.place (rule_meant c.in-Some.rule) names is.no_zero here so_far.0
+          c.in_ok-name.ensures
+          (sym (append-nil names)
+          ∙ ap (λ o. names ++ cons_option o []) (sym (none_is c.in_ok-name.field-0 c.in_default-2.not-Some))),
       omega (arith, so_far.1),
     )
 

@@ -1,6 +1,6 @@
 use Rattle.std.proofs.Common.{◌≡◌, ◌++◌, ◌≤◌, List, drop}
 use Rattle.std.specs.List.{filter_map}
-use Rattle.virtiofs_map.specs.GatheredParts.{part_of}
+use Rattle.virtiofs_map.specs.AuditParts.{part_of}
 use Rattle.virtiofs_map.specs.NamesImage.{IsMapOf, pattern_bytes}
 use Rattle.virtiofs_map.specs.Rule.{MappingRule}
 use Rattle.virtiofs_map.proofs.audit.gathered.gathered.Given as goal

@@ -1,7 +1,8 @@
-use Rattle.std.proofs.Common.{sym, ◌∙◌}
+use Rattle.std.proofs.Common.{sym, ◌∙◌, rules}
 use Rattle.std.proofs.lemmas.Result.{err_from_is_err_and}
 use Rattle.virtiofs_map.specs.declared.cmdline.IdMap.TheVariants.{Guest, Host, SquashGuest, SquashHost}
-use Rattle.virtiofs_map.proofs.SpecificationLemmas.{IsWordFault-count}
+use Rattle.std.proofs.lemmas.Str.{IsUtf8-string_bytes}
+use Rattle.virtiofs_map.proofs.SpecificationLemmas.{IsWordFault-count, IsWordFault-unknown}
 use Rattle.virtiofs_map.proofs.cmdline.reader.one_way.Goals as goal
 
 pub returns-in_err-from_guest-in-guest-clause-refused : goal.returns-in_err-from_guest-in-guest-clause-refused
@@ -34,3 +35,7 @@ returns-in_err-from_host-in-text-2-clause-refused g c =
     rw (p.1, p.2)
     (IsWordFault-count (SquashHost 0 0 0) _ _ _ (sym c.as_str.ensures.value ∙ c.in-text-2.is)
     c.in_err-from_host-in-text-2.ensures.answer)
+
+pub returns-in_default-clause-refused : goal.returns-in_default-clause-refused
+returns-in_default-clause-refused g c =
+    IsWordFault-unknown _ _ (IsUtf8-string_bytes c.args.word) (search rules)

@@ -1,4 +1,3 @@
-use Rattle.std.proofs.lemmas.Str.{IsUtf8-string_bytes}
 use Rattle.virtiofs_map.proofs.SpecificationLemmas.{refused-word}
 use Rattle.virtiofs_map.proofs.cmdline.reader.read.Goals as goal
 
@@ -6,4 +5,4 @@ pub returns-clause-refused : goal.returns-clause-refused
 returns-clause-refused g c =
     let cut = rw c.in-Some.is at c.in_ok-cut.ensures.cut in
     let read = rw (← c.deref.ensures.value) at c.in_ok-numbers.ensures.read in
-    refused-word _ _ _ _ _ _ (IsUtf8-string_bytes c.in-Some.cut.word) cut read c.specification.ensures.refused
+    refused-word _ _ _ _ _ cut read c.specification.ensures.refused

@@ -30,9 +30,6 @@ pub returns-clause-size : goal.returns-clause-size
 returns-clause-size g c =
     omega (arith, (answer_size c.args.self.now c.args.names.items _ (returns-clause-answer g c)).1)
 
-pub returns-in_err-listed-clause-guests_apart : goal.returns-in_err-listed-clause-guests_apart
-returns-in_err-listed-clause-guests_apart g c = guests_apart c.args.self.now c.args.names.items
-
 pub returns-in_default : goal.returns-in_default
 returns-in_default g c =
     let none = unanswered c.args.self.now c.args.names.items _ _ _ _ c.names.invariant
@@ -47,15 +44,6 @@ returns-in_default g c =
       size = tt;
       guests_apart = guests_apart c.args.self.now c.args.names.items;
     }
-
-pub returns-in_err-push_name-clause-guests_apart : goal.returns-in_err-push_name-clause-guests_apart
-returns-in_err-push_name-clause-guests_apart g c = guests_apart c.args.self.now c.args.names.items
-
-pub returns-in_err-push-clause-guests_apart : goal.returns-in_err-push-clause-guests_apart
-returns-in_err-push-clause-guests_apart g c = guests_apart c.args.self.now c.args.names.items
-
-pub returns-clause-guests_apart : goal.returns-clause-guests_apart
-returns-clause-guests_apart g c = guests_apart c.args.self.now c.args.names.items
 
 pub returns-clause-not_empty : goal.returns-clause-not_empty
 returns-clause-not_empty g c =

@@ -11,7 +11,7 @@ use Rattle.virtiofs_map.proofs.xattrmap.reader.read_rules.Goals as goal
 pub loop-number-init : goal.loop-number-init
 loop-number-init g c = (
   c.trim-rest.utf8,
-  start _ _ _ (ap chars c.trim-rest.ensures.trim ∙ chars-trim c.args.text.now c.utf8.text) c.new-rules.ensures,
+  start _ _ _ (ap chars c.trim-rest.ensures.trim ∙ chars-trim c.args.text.now c.utf8.text) c.in_ok-rules.ensures,
 )
 
 pub next_rule-requires : goal.next_rule-requires
@@ -47,7 +47,7 @@ loop-number-preserved g c =
       c.trim_ascii_start-rest.utf8,
       step _ _ _ _ _ _ (as_written c.in-Ok.found.0) _ _ c.loop-number.invariant.1
           (ap (λ n. n + 1) (c.len-number.ensures ∙ search rules)) more c.in-Ok.ensures.ok
-          (λ e. ap chars (c.in-Ok.ensures.last (head_is_map _ e)) ∙ chars-nil) skipped c.in_ok-rules.ensures,
+          (λ e. ap chars (c.in-Ok.ensures.last (head_is_map _ e)) ∙ chars-nil) skipped c.in_ok-rules-2.ensures,
     )
 
 pub returns-then-number-eq0-clause-refused : goal.returns-then-number-eq0-clause-refused

@@ -1,18 +1,18 @@
 -- The children of a range, appended one after the other.
-use Rattle.std.proofs.Common.{◌≡◌, ◌≢◌, Bool, true, false, Some, slice_get, ℕ, zero, suc, ◌+◌, ◌-◌, ◌<◌, ◌≤◌, List, []}
-use Rattle.std.proofs.Common.{◌∷◌, ◌++◌, length, take, get_or, inl, inr, sym, ap, subst, ◌∙◌, arith, sum_by, replicate}
+use Rattle.std.proofs.Common.{◌≡◌, ◌≢◌, Bool, true, false, ℕ, ◌+◌, ◌-◌, ◌<◌, ◌≤◌, List, []}
+use Rattle.std.proofs.Common.{◌∷◌, ◌++◌, length, inl, inr, sym, ap, subst, ◌∙◌, arith, sum_by, replicate, refl}
 use Rattle.std.proofs.Common.{◌*◌, append_assoc, append-nil, length-append}
-use Rattle.std.proofs.Common.{rules}
 use Rattle.std.proofs.lemmas.Bool.{cases_lt, cases_Bool}
-use Rattle.std.proofs.lemmas.List.{length-replicate, length_push}
+use Rattle.std.proofs.lemmas.List.{get_or_append_left, get_or-append_right, get_or-replicate, length-replicate, length_push}
+use Rattle.std.proofs.lemmas.List.Elements.{All-append, All-nil, All-push, All-replicate}
+use Rattle.std.proofs.Math.Seq.{get_or-append_seam}
 use Rattle.std.proofs.lemmas.List.Folds.{sum_by-replicate}
 use Rattle.std.proofs.lemmas.List.Sums.{sum_by-append, sum_by_push}
-use Rattle.virtiofs_map.specs.TrieBuildParts.{text, AreReady, GoOnFrom, IsLeast, IsUpto, IsPatternRange, IsKidOrHole}
-use Rattle.virtiofs_map.specs.TrieBuildParts.{AreAdded, AreKids, IsKid, below, hole, next_of, path_of_range, texts_of}
+use Rattle.virtiofs_map.specs.TrieBuildParts.{AreReady, GoOnFrom, IsLeast, IsUpto, IsPatternRange, IsKidOrHole}
+use Rattle.virtiofs_map.specs.TrieBuildParts.{AreAdded, AreKids, IsGroup, IsKid, below, range_at, hole, next_of, path_of_range, texts_of}
 use Rattle.virtiofs_map.specs.PatternTrie.{are_sparse, last_byte, next_bytes, places}
 use Rattle.virtiofs_map.specs.declared.xattrmap.trie.build.PatternRange.{PatternRange}
 use Rattle.virtiofs_map.specs.declared.xattrmap.trie.patterns.Pattern.{Pattern}
-use Rattle.virtiofs_map.proofs.xattrmap.trie.build.AppendedRangeLemmas.{append_cases, append_keeps, push_cases, push_last}
 use Rattle.virtiofs_map.proofs.xattrmap.trie.build.FirstBytesLemmas.{AreFirstBytes, all_met, bytes_more, first_bytes}
 use Rattle.virtiofs_map.proofs.xattrmap.trie.build.FirstBytesLemmas.{first_bytes_all, first_bytes_more, first_bytes_none}
 use Rattle.virtiofs_map.proofs.xattrmap.trie.build.FirstBytesLemmas.{no_first_bytes}
@@ -33,51 +33,55 @@ pub record AreFound (patterns : List Pattern) (range : PatternRange) (from lowes
   pub dense : is_sparse ≡ false → length kids + lowest ≡ upto
   pub below : sum_by (below patterns) kids ≡ sum_by (deep_of patterns range) (first_bytes patterns range upto)
 
--- the same at each place
-same_everywhere : {X : Type 0} (n k : ℕ) (x y : X) → slice_get (replicate n x) k ≡ Some y → y ≡ x
-same_everywhere zero k x y e = absurd cc
-same_everywhere (suc n) zero x y e = cc
-same_everywhere (suc n) (suc k) x y e = same_everywhere n k x y e
-
 -- a child more, behind holes
-kids_more : {patterns : List Pattern} {range : PatternRange} {lowest answer : ℕ} {is_sparse : Bool}
+kids_more : {patterns : List Pattern} {range : PatternRange} {lowest : ℕ} {is_sparse : Bool}
     {kids : List PatternRange} (kid : PatternRange) → AreKids patterns kids range lowest is_sparse kid.low → (holes : ℕ)
-    → IsPatternRange patterns kid → IsKid patterns range answer kid
+    → IsPatternRange patterns kid → IsKid patterns range kid
     → (is_sparse ≡ false → kid.first_byte ≡ lowest + length (kids ++ replicate holes hole))
     → AreKids patterns ((kids ++ replicate holes hole) ++ kid ∷ []) range lowest is_sparse kid.high
-kids_more {patterns} {range} {lowest} {answer} {is_sparse} {kids} kid all holes is_range is stands = record {
-  each = λ at one e. elim (push_cases (kids ++ replicate holes hole) kid at one e) [
-    | inl (_, f) ↦ elim (append_cases kids (replicate holes hole) at one f) [
-      | inl (_, g) ↦ all.each at one g
-      | inr (_, g) ↦
-          subst (IsKidOrHole patterns range lowest is_sparse at)
-          (sym (same_everywhere holes (at - length kids) hole one g)) (search rules)
+kids_more {patterns} {range} {lowest} {is_sparse} {kids} kid all holes is_range is stands = record {
+  each = All-push (IsKidOrHole patterns range) front kid
+      (All-append (IsKidOrHole patterns range) kids (replicate holes hole) all.each
+      (All-replicate (IsKidOrHole patterns range) holes hole (inr refl))) (inl (is_range, is));
+  placed = λ dense at below real. elim (cases_lt at (length front)) [
+    | inl b ↦ elim (cases_lt at (length kids)) [
+      | inl first ↦ ap (λ (p : PatternRange). p.first_byte) (kept at first)
+          ∙ all.placed dense at first (λ z. real (ap (λ (p : PatternRange). p.first_byte) (kept at first) ∙ z))
+      | inr past ↦ absurd (real (ap (λ (p : PatternRange). p.first_byte) (
+          get_or_append_left front (kid ∷ []) hole at b
+          ∙ get_or-append_right kids (replicate holes hole) (length kids) at hole refl past
+          ∙ get_or-replicate holes (at - length kids) hole hole
+          (omega (arith, size, past, length-replicate holes hole)))))
     ]
-    | inr (last, same) ↦ subst (IsKidOrHole patterns range lowest is_sparse at) same record {
-      place = inl is_range;
-      answer = answer;
-      is = λ _. is;
-      placed = λ _ dense. omega (arith, stands dense, last);
-    }
+    | inr g ↦
+        (let last : at ≡ length front = omega (arith, below, length_push front kid) in
+        ap (λ n. (range_at (front ++ kid ∷ []) n).first_byte) last
+        ∙ ap (λ (p : PatternRange). p.first_byte) (get_or-append_seam front kid [] hole)
+        ∙ omega (arith, stands dense, last))
   ];
   complete = λ i from below longer. elim (cases_lt i kid.low) [
     | inl before ↦
-        (let has = all.complete i from before longer in
-        record {
-          at = has.at;
-          kid = has.kid;
-          here = append_keeps (kids ++ replicate holes hole) (kid ∷ []) has.at has.kid
-              (append_keeps kids (replicate holes hole) has.at has.kid has.here);
-          first_byte = has.first_byte;
-        })
-    | inr g ↦ record {
-      at = length (kids ++ replicate holes hole);
-      kid = kid;
-      here = push_last (kids ++ replicate holes hole) kid;
-      first_byte = is.first_byte ∙ sym (is.bytes i g below);
-    }
+        (let has = all.complete i from before longer in (
+          has.0,
+          omega (arith, has.1, size, length_push front kid),
+          ap (λ (p : PatternRange). p.first_byte) (kept has.0 has.1) ∙ has.2,
+        ))
+    | inr g ↦ (
+      length front,
+      omega (arith, length_push front kid),
+      ap (λ (p : PatternRange). p.first_byte) (get_or-append_seam front kid [] hole) ∙ is.first_byte ∙ sym (is.group.bytes i g below),
+    )
   ];
-}
+} where
+  front : List PatternRange
+  front = kids ++ replicate holes hole
+
+  size : length front ≡ length kids + length (replicate holes hole)
+  size = length-append kids (replicate holes hole)
+
+  kept : (at : ℕ) → at < length kids → range_at (front ++ kid ∷ []) at ≡ range_at kids at
+  kept at first = get_or_append_left front (kid ∷ []) hole at (omega (arith, size, first))
+      ∙ get_or_append_left kids (replicate holes hole) hole at first
 
 -- as many places are appended as the bytes have
 placed_count : (size lowest upto : ℕ) (is_sparse : Bool) (bytes : List ℕ) → upto ≡ last_byte lowest bytes + 1
@@ -98,7 +102,8 @@ module _ {most : ℕ} {patterns : List Pattern} (ready : AreReady most patterns)
         upto = next_of patterns range from;
         bytes = first_bytes_none ready is on;
         all = record {
-          each = λ at kid here. absurd cc;
+          each = All-nil (IsKidOrHole patterns range);
+          placed = λ dense at below. absurd (omega arith);
           complete = λ i a b longer. absurd (omega (arith, on.ended i a b));
         };
         sparse = λ _. ap length (sym (no_first_bytes ready is on));
@@ -108,18 +113,18 @@ module _ {most : ℕ} {patterns : List Pattern} (ready : AreReady most patterns)
 
   module _ {lowest : ℕ} {is_sparse : Bool} {old : List PatternRange} where
     -- a child more, behind holes
-    pub found_more : {answer : ℕ} (mid new : List PatternRange) (kid : PatternRange) (holes : ℕ)
+    pub found_more : (mid new : List PatternRange) (kid : PatternRange) (holes : ℕ)
         → AreFound patterns range from lowest is_sparse kid.low old mid
-        → IsLeast patterns (IsUpto patterns range) answer → IsKid patterns range answer kid → from ≤ kid.low
+        → IsLeast patterns (IsUpto patterns range) kid.answer → IsKid patterns range kid → from ≤ kid.low
         → new ≡ (mid ++ replicate holes hole) ++ kid ∷ []
         → (is_sparse ≡ true → holes ≡ 0)
         → (is_sparse ≡ false → length mid + holes + lowest ≡ length old + kid.first_byte)
         → AreFound patterns range from lowest is_sparse kid.high old new
     found_more mid new kid holes found least cut past whole sparse dense =
         let other : kid.high < range.high → next_of patterns range kid.high ≢ next_of patterns range kid.low =
-        λ more same. omega (arith, (cut.group kid.high (omega (arith, cut.from, cut.some)) more same).1) in
+        λ more same. omega (arith, (cut.group.all kid.high (omega (arith, cut.group.from, cut.group.some)) more same).1) in
         let size = ap length found.are ∙ length-append old found.kids in
-        let more = bytes_more ready is on lowest kid.low found.upto found.bytes kid.high past cut.some cut.upto cut.bytes
+        let more = bytes_more ready is on lowest kid.low found.upto found.bytes kid.high past cut.group.some cut.group.upto cut.group.bytes
         other in
         let count = ap length more
         ∙ length_push (first_bytes patterns range found.upto) (next_of patterns range kid.low) in
@@ -131,8 +136,8 @@ module _ {most : ℕ} {patterns : List Pattern} (ready : AreReady most patterns)
           are = whole ∙ ap (λ (l : List PatternRange). (l ++ replicate holes hole) ++ kid ∷ []) found.are
               ∙ simp append_assoc;
           upto = next_of patterns range kid.low + 1;
-          bytes = first_bytes_more ready is on lowest kid.low found.upto found.bytes kid.high past cut.some cut.upto
-              cut.bytes other;
+          bytes = first_bytes_more ready is on lowest kid.low found.upto found.bytes kid.high past cut.group.some cut.group.upto
+              cut.group.bytes other;
           all = kids_more kid found.all holes (kid_range ready is least cut) cut (λ e. omega (arith, dense e, size, parts, all));
           sparse = λ e. omega (arith, found.sparse e, sparse e, count, long, parts, all);
           dense = λ e. omega (arith, dense e, size, cut.first_byte, long, parts, all);
@@ -180,33 +185,17 @@ module _ {most : ℕ} {patterns : List Pattern} (ready : AreReady most patterns)
       → ((i : ℕ) → range.low ≤ i → i < upto → next_of patterns range i < next_of patterns range upto)
       → (i : ℕ) → range.low ≤ i → i < range.high → next_of patterns range i ≡ next_of patterns range upto
       → (upto ≤ i) × (i < high)
-  whole_group upto high from some other apart i a b same = elim (cases_lt i upto) [
-    | inl l ↦ absurd (omega (arith, apart i a l, same))
-    | inr g ↦ elim (cases_lt i high) [
-      | inl l ↦ (g, l)
-      | inr h ↦
-          absurd (
-          let first = row ready is upto high from (omega arith) (omega arith) in
-          let then = row ready is high i (omega arith) h b in
-          other (omega arith) (omega (arith, first, then, same)))
-    ]
-  ]
+  whole_group upto high from some other apart i a b same = grind (arith, cases_lt, row)
 
-  -- the child that the code makes has all the patterns with its byte
-  pub cut_is : (kid : PatternRange) (answer upto high : ℕ) → range.low ≤ upto → upto < high → high ≤ range.high
-      → kid.low ≡ upto → kid.high ≡ high → kid.answer ≡ answer → kid.first_byte ≡ get_or (text patterns upto) range.depth 0
-      → kid.depth ≡ range.depth + 1 + kid.length → kid.length < 256
-      → kid.depth ≤ length (text patterns upto)
-      → (take (range.depth + 1) (text patterns upto) ≡ take (range.depth + 1) (text patterns (high - 1))
-      → take kid.depth (text patterns upto) ≡ take kid.depth (text patterns (high - 1)))
-      → (kid.length < 255 → kid.depth < length (text patterns upto) → kid.depth < length (text patterns (high - 1))
-      → get_or (text patterns upto) kid.depth 0 ≢ get_or (text patterns (high - 1)) kid.depth 0)
-      → ((i : ℕ) → upto ≤ i → i < high
-      → get_or (text patterns i) range.depth 0 ≡ get_or (text patterns upto) range.depth 0)
-      → (high < range.high → get_or (text patterns high) range.depth 0 ≢ get_or (text patterns upto) range.depth 0)
-      → ((i : ℕ) → range.low ≤ i → i < upto
-      → get_or (text patterns i) range.depth 0 < get_or (text patterns upto) range.depth 0)
-      → IsKid patterns range answer kid
-  cut_is kid answer upto high from some top is_low is_high answered first_byte depth size long same stops bytes other
-      apart =
-      grind (arith, whole_group)
+  pub is_group : (low high : ℕ) → range.low ≤ low → low < high → high ≤ range.high
+      → ((i : ℕ) → low ≤ i → i < high → next_of patterns range i ≡ next_of patterns range low)
+      → (high < range.high → next_of patterns range high ≢ next_of patterns range low)
+      → ((i : ℕ) → range.low ≤ i → i < low → next_of patterns range i < next_of patterns range low)
+      → IsGroup patterns range low high
+  is_group low high from some upto bytes other apart = record {
+    from = from;
+    some = some;
+    upto = upto;
+    bytes = bytes;
+    all = whole_group low high from some other apart;
+  }

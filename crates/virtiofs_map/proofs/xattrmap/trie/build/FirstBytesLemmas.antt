@@ -1,6 +1,6 @@
 -- The bytes with which the patterns of a range go on, as they are passed in groups.
 use Rattle.std.proofs.Common.{◌≡◌, ◌≢◌, ◌⊎◌, ℕ, ◌+◌, ◌-◌, ◌*◌, ◌<◌, ◌≤◌, ltb, Bool, false, List, [], ◌∷◌, ◌++◌}
-use Rattle.std.proofs.Common.{length, refl, ap, ◌∙◌, arith, inl, inr}
+use Rattle.std.proofs.Common.{length, refl, sym, ap, ◌∙◌, arith, inl, inr}
 use Rattle.std.proofs.lemmas.Bool.{cases_lt, false_from_ne_true}
 use Rattle.std.proofs.lemmas.List.{get_or_past, length_push}
 use Rattle.virtiofs_map.specs.TrieBuildParts.{text, AreReady, GoOnFrom, IsPatternRange, next_of, path_of_range, texts_of}
@@ -150,4 +150,12 @@ module _ {most : ℕ} {patterns : List Pattern} (ready : AreReady most patterns)
           → count ≡ length (first_bytes patterns range upto)
           → ltb (2 * count + 4) (highest + 1 - lowest)
           ≡ are_sparse (next_bytes (texts_of patterns) (path_of_range patterns range))
-      first_bytes_sparse highest count l is_high counted = grind (arith, all_met, first_bytes_all)
+      first_bytes_sparse highest count l is_high counted =
+          let met = all_met l in
+          let same : low ≡ range.high = omega arith in
+          let size : count ≡ length (lowest ∷ met.rest) = counted ∙ ap length met.are in
+          let last : highest ≡ last_byte lowest met.rest =
+          omega (arith, is_high, ap (λ n. next_of patterns range (n - 1)) same, met.top, met.last) in
+          ap (λ n. ltb (2 * n + 4) (highest + 1 - lowest)) size
+          ∙ ap (λ h. ltb (2 * length (lowest ∷ met.rest) + 4) (h + 1 - lowest)) last
+          ∙ sym (ap are_sparse (first_bytes_all ∙ met.are))

@@ -1,12 +1,10 @@
--- Patterns in order, and what those have in common that stand between two.
-use Rattle.std.proofs.Common.{◌≡◌, ◌≢◌, ℕ, zero, suc, ◌+◌, ◌<◌, ◌≤◌, List, length, take, get_or, inl, inr, refl}
+-- Patterns in order, what those have in common that stand between two, and the least of their answers.
+use Rattle.std.proofs.Common.{◌≡◌, ◌≢◌, ◌⊎◌, ℕ, zero, suc, ◌<◌, ◌≤◌, List, length, take, get_or, min, inl, inr, refl}
 use Rattle.std.proofs.Common.{sym, ap, subst, ◌∙◌, arith, add-one, take-take, get_or-take, rules}
 use Rattle.std.proofs.lemmas.Bool.{cases_lt}
 use Rattle.std.proofs.lemmas.List.{take_more_same, get_or_past}
-use Rattle.std.proofs.lemmas.Option.{slice_get_cases, slice_get-get_or}
-use Rattle.virtiofs_map.specs.TrieBuildParts.{text, start_of, AreReady, IsReady}
+use Rattle.virtiofs_map.specs.TrieBuildParts.{pattern_at, text, AreReady, IsLeast, IsReady}
 use Rattle.virtiofs_map.specs.declared.xattrmap.trie.patterns.Pattern.{Pattern}
-use Rattle.virtiofs_map.proofs.xattrmap.trie.build.PatternTextLemmas.{text-here, start_of-here}
 
 -- ---- fronts that are the same
 
@@ -22,48 +20,19 @@ same_byte one other m k l e = search (rules, get_or-take)
 
 module _ {most : ℕ} {patterns : List Pattern} (ready : AreReady most patterns) where
   -- the pattern at a place
-  pub ready_at : (i : ℕ) → i < length patterns → (one : Pattern) × (text patterns i ≡ one.bytes.now)
-      × (start_of patterns i ≡ one.start) × IsReady most one
-  ready_at i l = elim (slice_get_cases patterns i).1 [
-    | inr (past, _) ↦ absurd (omega (arith, past))
-    | inl (one, _, here, _) ↦ (
-      one,
-      text-here patterns i one here,
-      start_of-here patterns i one here,
-      subst (IsReady most) (cc (slice_get-get_or patterns i one l)) (ready.each i one l),
-    )
-  ]
+  pub ready_at : (i : ℕ) → i < length patterns → IsReady most (pattern_at patterns i)
+  ready_at i l = ready.each i _ l
 
   -- no pattern holds a zero
   pub no_zero : (i k : ℕ) → i < length patterns → k < length (text patterns i) → get_or (text patterns i) k 0 ≢ 0
-  no_zero i k l m =
-      let at = ready_at i l in
-      subst (λ (s : List ℕ). k < length s → get_or s k 0 ≢ 0) (sym at.1) (at.3.full k 0) m
+  no_zero i k l m = (ready_at i l).full k 0 m
 
   pub small : (i k : ℕ) → i < length patterns → get_or (text patterns i) k 0 < 256
-  small i k l = let at = ready_at i l in subst (λ (s : List ℕ). get_or s k 0 < 256) (sym at.1) (at.3.small k)
+  small i k l = (ready_at i l).small k
 
   -- a pattern goes on where its byte is not zero
   pub goes_on : (i k : ℕ) → get_or (text patterns i) k 0 ≢ 0 → k < length (text patterns i)
   goes_on i k ne = search (rules, cases_lt, get_or_past)
-
-  -- patterns that share a front stand in the order of their next bytes
-  pub rising : (i j depth : ℕ) → i ≤ j → j < length patterns
-      → take depth (text patterns i) ≡ take depth (text patterns j)
-      → get_or (text patterns i) depth 0 ≤ get_or (text patterns j) depth 0
-  rising i j depth l within e = elim (cases_lt i j) [
-    | inl below ↦ apart below
-    | inr g ↦ grind arith
-  ] where
-    apart : i < j → get_or (text patterns i) depth 0 ≤ get_or (text patterns j) depth 0
-    apart below = elim (slice_get_cases patterns i).1 [
-      | inr (past, _) ↦ absurd (omega (arith, l, within, past))
-      | inl (one, _, here, _) ↦ elim (slice_get_cases patterns j).1 [
-        | inr (past, _) ↦ absurd (omega (arith, within, past))
-        | inl (other, _, there, _) ↦
-            grind (arith, text-here)
-      ]
-    ]
 
   -- what two patterns share, all between them share
   pub between : (m i k j : ℕ) → i ≤ k → k ≤ j → j < length patterns → m ≤ length (text patterns i)
@@ -73,8 +42,8 @@ module _ {most : ℕ} {patterns : List Pattern} (ready : AreReady most patterns)
   between (suc m) i k j ik kj within long e =
       let less = shorter (text patterns i) (text patterns j) (suc m) m (omega arith) e in
       let front = between m i k j ik kj within (omega (arith, long)) less in
-      let low = rising i k m ik (omega (arith, kj, within)) (sym front.0) in
-      let high = rising k j m kj within (front.0 ∙ less) in
+      let low = ready.rising i k m ik (omega (arith, kj, within)) (sym front.0) in
+      let high = ready.rising k j m kj within (front.0 ∙ less) in
       let ends = same_byte (text patterns i) (text patterns j) (suc m) m (omega arith) e in
       let byte : get_or (text patterns k) m 0 ≡ get_or (text patterns i) m 0 = omega (arith, low, high, ends) in
       let full = no_zero i m (omega (arith, ik, kj, within)) (omega (arith, long)) in
@@ -82,6 +51,29 @@ module _ {most : ℕ} {patterns : List Pattern} (ready : AreReady most patterns)
       let whole = take_more_same (text patterns k) (text patterns i) m 0 more (omega (arith, long)) front.0 byte in
       (subst (λ n. take n (text patterns k) ≡ take n (text patterns i)) (add-one m) whole, omega (arith, more))
 
-  -- a pattern ends among the bytes
-  pub ends : (i : ℕ) → i < length patterns → start_of patterns i + length (text patterns i) ≤ most
-  ends i l = let at = ready_at i l in omega (arith, at.2, ap (λ (s : List ℕ). length s) at.1, at.3.within)
+-- ---- the least answer
+
+-- one pattern more
+pub IsLeast-more : (patterns : List Pattern) (chosen more : ℕ → Type 0) (at value next : ℕ)
+    → IsLeast patterns chosen value → next ≡ min value (pattern_at patterns at).answer → ((i : ℕ) → chosen i → more i) → more at
+    → ((i : ℕ) → more i → chosen i ⊎ (i ≡ at))
+    → IsLeast patterns more next
+IsLeast-more patterns chosen more at value next least e old new either = record {
+  top = omega (arith, least.top);
+  below = λ i m. elim (either i m) [
+    | inl c ↦ omega (arith, least.below i c)
+    | inr s ↦ omega (arith, ap (λ n. (pattern_at patterns n).answer) s)
+  ];
+  met = elim (cases_lt (pattern_at patterns at).answer value) [
+    | inl b ↦ inr (at, new, omega arith)
+    | inr g ↦ elim least.met [
+      | inl none ↦ inl (omega arith)
+      | inr (i, c, is) ↦ inr (i, old i c, omega (arith, is))
+    ]
+  ];
+}
+
+-- the same choice in other words
+pub IsLeast-same : (patterns : List Pattern) (chosen other : ℕ → Type 0) (value : ℕ) → IsLeast patterns chosen value
+    → ((i : ℕ) → chosen i → other i) → ((i : ℕ) → other i → chosen i) → IsLeast patterns other value
+IsLeast-same patterns chosen other value least to from = search rules

@@ -47,46 +47,10 @@ no_room texts path (suc levels) room e = below_node texts path levels room e ∙
 
 -- ---- a label
 
--- the label's bytes lead on alone, one after the other
-abbrev Passes : List (List ℕ) → List ℕ → List ℕ → Type 0
-Passes texts front [] = Unit {0}
-Passes texts front (byte ∷ label) =
-    (ends texts front ≡ false) × (next_bytes texts front ≡ byte ∷ []) × Passes texts (front ++ byte ∷ []) label
-
 goes : (texts : List (List ℕ)) (front : List ℕ) (room byte : ℕ) → ends texts front ≡ false
     → next_bytes texts front ≡ byte ∷ [] → goes_on (suc room) texts front ≡ true
 unfolding goes_on
-goes texts front room byte open' next =
-    ap (λ b. nat_lt 0 (suc room) && not b && nat_eq (length (next_bytes texts front)) 1) open'
-    ∙ ap (λ (bytes : List ℕ). nat_lt 0 (suc room) && not false && nat_eq (length bytes) 1) next
-    ∙ ap (λ b. b && not false && nat_eq (length (byte ∷ [])) 1) (lt-ltb 0 (suc room) (omega arith))
-
--- no place is between its bytes
-label_passed : (texts : List (List ℕ)) (front label : List ℕ) (levels room : ℕ) → length label ≤ room
-    → Passes texts front label
-    → places_below (length label + levels) room texts front
-    ≡ places_below levels (room - length label) texts (front ++ label)
-label_passed texts front [] levels room short passes =
-    let all : 0 + levels ≡ levels = omega arith in
-    let same : room ≡ room - 0 = omega arith in
-    ap (λ n. places_below n room texts front) all
-    ∙ ap (λ r. places_below levels r texts front) same
-    ∙ ap (places_below levels (room - 0) texts) (sym (append-nil front))
-label_passed texts front (byte ∷ label) levels zero short passes = absurd (omega arith)
-label_passed texts front (byte ∷ label) levels (suc room) short (open', next, passes) =
-    let more : length (byte ∷ label) + levels ≡ suc (length label + levels) = omega arith in
-    let less : suc room - 1 ≡ room = omega arith in
-    let left : room - length label ≡ suc room - length (byte ∷ label) = omega arith in
-    let deep : ℕ → ℕ = λ b. places_below (length label + levels) room texts (front ++ b ∷ []) in
-    let one : sum_by deep (byte ∷ []) ≡ deep byte = omega arith in
-    ap (λ n. places_below n (suc room) texts front) more
-    ∙ below_label texts front (length label + levels) (suc room) (goes texts front room byte open' next)
-    ∙ ap (λ r. sum_by (λ b. places_below (length label + levels) r texts (front ++ b ∷ [])) (next_bytes texts front)) less
-    ∙ ap (sum_by deep) next
-    ∙ one
-    ∙ label_passed texts (front ++ byte ∷ []) label levels room (omega arith) passes
-    ∙ ap (places_below levels (room - length label) texts) (append_assoc front (byte ∷ []) label)
-    ∙ ap (λ r. places_below levels r texts (front ++ byte ∷ label)) left
+goes texts front room byte open' next = rw (open', next, lt-ltb 0 (suc room) (omega arith))
 
 -- one number alone is each of them
 only_one : (byte x : ℕ) → IsOne (byte ∷ []) x → x ≡ byte
@@ -119,7 +83,6 @@ below_hole patterns = refl
 
 -- a pattern has no more bytes than all
 no_deeper : (patterns : List Pattern) (i : ℕ) → i < length patterns → length (text patterns i) ≤ levels_of patterns
-unfolding text
 no_deeper [] i l = absurd (omega arith)
 no_deeper (one ∷ patterns) zero l = omega (arith, sum_by-cons length one.bytes.now (texts_of patterns))
 no_deeper (one ∷ patterns) (suc i) l =
@@ -170,21 +133,38 @@ module _ {most : ℕ} {patterns : List Pattern} (ready : AreReady most patterns)
         let same = byte_there front (text patterns found.at) x (length front) refl found.passes in
         sym same.1 ∙ one.1
 
-  all_pass : (front label : List ℕ) (at : ℕ) → at < length patterns
+  -- no place is between the bytes of a label
+  label_passed : (front label : List ℕ) (levels room at : ℕ) → length label ≤ room → at < length patterns
       → begins (front ++ label) (text patterns at) ≡ true
       → ((i : ℕ) → i < length patterns → begins front (text patterns i) ≡ true
       → begins (front ++ label) (text patterns i) ≡ true)
-      → Passes (texts_of patterns) front label
-  all_pass front [] at within here all = tt
-  all_pass front (byte ∷ label) at within here all =
-      let one = sole front label byte at within here all in
-      let joined = append_assoc front (byte ∷ []) label in (
-        one.0,
-        one.1,
-        all_pass (front ++ byte ∷ []) label at within (ap (λ w. begins w (text patterns at)) joined ∙ here)
-            (λ i l b. ap (λ w. begins w (text patterns i)) joined ∙ all i l
-            (begins_trans front (front ++ byte ∷ []) (text patterns i) (begins-append front (byte ∷ [])) b)),
-      )
+      → places_below (length label + levels) room (texts_of patterns) front
+      ≡ places_below levels (room - length label) (texts_of patterns) (front ++ label)
+  label_passed front [] levels room at short within here all =
+      let deep : 0 + levels ≡ levels = omega arith in
+      let same : room - 0 ≡ room = omega arith in
+      rw (deep, same, append-nil front)
+  label_passed front (byte ∷ label) levels zero at short within here all = absurd (omega arith)
+  label_passed front (byte ∷ label) levels (suc room) at short within here all =
+      let texts = texts_of patterns in
+      let (open', next) = sole front label byte at within here all in
+      let joined = append_assoc front (byte ∷ []) label in
+      let more : length (byte ∷ label) + levels ≡ suc (length label + levels) = omega arith in
+      let less : suc room - 1 ≡ room = omega arith in
+      let left : room - length label ≡ suc room - length (byte ∷ label) = omega arith in
+      let deep : ℕ → ℕ = λ b. places_below (length label + levels) room texts (front ++ b ∷ []) in
+      let one : sum_by deep (byte ∷ []) ≡ deep byte = omega arith in
+      ap (λ n. places_below n (suc room) texts front) more
+      ∙ below_label texts front (length label + levels) (suc room) (goes texts front room byte open' next)
+      ∙ ap (λ r. sum_by (λ b. places_below (length label + levels) r texts (front ++ b ∷ [])) (next_bytes texts front)) less
+      ∙ ap (sum_by deep) next
+      ∙ one
+      ∙ label_passed (front ++ byte ∷ []) label levels room at (omega arith) within
+      (ap (λ w. begins w (text patterns at)) joined ∙ here)
+      (λ i l b. ap (λ w. begins w (text patterns i)) joined ∙ all i l
+      (begins_trans front (front ++ byte ∷ []) (text patterns i) (begins-append front (byte ∷ [])) b))
+      ∙ ap (places_below levels (room - length label) texts) joined
+      ∙ ap (λ r. places_below levels r texts (front ++ byte ∷ label)) left
 
   -- ---- a range
 
@@ -290,9 +270,9 @@ bare_below {patterns = patterns} ready range place bare = elim place [
 
 -- ---- a child
 
-module _ {most : ℕ} {patterns : List Pattern} (ready : AreReady most patterns) {range kid : PatternRange} {answer : ℕ}
-    (is : IsPatternRange patterns range) (least : IsLeast patterns (IsUpto patterns range) answer)
-    (cut : IsKid patterns range answer kid) where
+module _ {most : ℕ} {patterns : List Pattern} (ready : AreReady most patterns) {range kid : PatternRange}
+    (is : IsPatternRange patterns range) (least : IsLeast patterns (IsUpto patterns range) kid.answer)
+    (cut : IsKid patterns range kid) where
   abbrev path : List ℕ
   path = path_of_range patterns range
 
@@ -324,7 +304,7 @@ module _ {most : ℕ} {patterns : List Pattern} (ready : AreReady most patterns)
   unfolding longest_label
   kid_below =
       let kid_is = kid_range ready is least cut in
-      let some = cut.some in
+      let some = cut.group.some in
       let size = label_size in
       let levels = levels_of patterns - range.depth - kid.length in
       let deepest : kid.depth ≤ levels_of patterns = not_deep ready kid_is in
@@ -335,7 +315,7 @@ module _ {most : ℕ} {patterns : List Pattern} (ready : AreReady most patterns)
       let goes_with : (i : ℕ) → i < length patterns → begins front (text patterns i) ≡ true
       → begins (front ++ label) (text patterns i) ≡ true =
       λ i l b. let in' = goes_in ready is i kid.first_byte l b in
-      let group = cut.group i in'.0 in'.1 (in'.3 ∙ cut.first_byte) in
+      let group = cut.group.all i in'.0 in'.1 (in'.3 ∙ cut.first_byte) in
       whole i group.0 group.1 in
       real_below ready kid_is
       ∙ ap (λ n. places_below n 0 (texts_of patterns) (path_of_range patterns kid)) at
@@ -343,7 +323,6 @@ module _ {most : ℕ} {patterns : List Pattern} (ready : AreReady most patterns)
       (label_ends ready kid_is (255 - length label) some
       (λ room longer other same. cut.stops (omega (arith, size)) longer other same)))
       ∙ ap (places_below levels (255 - length label) (texts_of patterns)) (sym joined)
-      ∙ sym (label_passed (texts_of patterns) front label levels 255 (omega (arith, size, cut.size))
-      (all_pass ready front label kid.low (omega (arith, some, cut.upto, is.within)) (whole kid.low (omega arith) some)
-      goes_with))
+      ∙ sym (label_passed ready front label levels 255 kid.low (omega (arith, size, cut.size))
+      (omega (arith, some, cut.group.upto, is.within)) (whole kid.low (omega arith) some) goes_with)
       ∙ ap (λ n. places_below n 255 (texts_of patterns) front) (sym all)

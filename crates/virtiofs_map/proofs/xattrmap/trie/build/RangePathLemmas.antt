@@ -1,9 +1,9 @@
 -- The patterns that begin with the path of a range, and those that go on after it.
-use Rattle.std.proofs.Common.{◌≡◌, ℕ, zero, suc, ◌+◌, ◌<◌, ◌≤◌, Bool, true, ◌||◌, List, [], ◌∷◌, ◌++◌, length, take, drop}
-use Rattle.std.proofs.Common.{get_or, sym, ap, subst, ◌∙◌, arith, append_assoc, length-append, inl, inr, true≢false}
+use Rattle.std.proofs.Common.{◌≡◌, ℕ, ◌+◌, ◌<◌, ◌≤◌, Bool, true, List, [], ◌∷◌, ◌++◌, length, take, drop}
+use Rattle.std.proofs.Common.{get_or, sym, ap, subst, ◌∙◌, arith, append_assoc, length-append}
 use Rattle.std.specs.List.{list_any}
-use Rattle.std.proofs.lemmas.Bool.{cases_Bool, or_right}
-use Rattle.std.proofs.lemmas.List.{take-append-drop, take_at, length-take, length-take-le, drop_more}
+use Rattle.std.proofs.lemmas.List.{take-append-drop, take_at, length-map, length-take, length-take-le, drop_more, get_or-map}
+use Rattle.std.proofs.lemmas.List.Folds.{Any-from_list_any, list_any_at}
 use Rattle.std.proofs.Math.Seq.{get_or-append_seam}
 use Rattle.virtiofs_map.specs.TrieBuildParts.{text, AreReady, IsPatternRange, path_of_range, texts_of}
 use Rattle.virtiofs_map.specs.Names.{begins}
@@ -11,7 +11,7 @@ use Rattle.virtiofs_map.specs.PatternTrie.{leads}
 use Rattle.virtiofs_map.specs.declared.xattrmap.trie.build.PatternRange.{PatternRange}
 use Rattle.virtiofs_map.specs.declared.xattrmap.trie.patterns.Pattern.{Pattern}
 use Rattle.virtiofs_map.proofs.BeginsLemmas.{begins_split, begins_from, begins_trans, begins-append}
-use Rattle.virtiofs_map.proofs.xattrmap.trie.build.PatternOrderLemmas.{goes_on, no_zero, rising}
+use Rattle.virtiofs_map.proofs.xattrmap.trie.build.PatternOrderLemmas.{goes_on, no_zero}
 
 -- ---- a test of texts
 
@@ -22,22 +22,20 @@ pub record IsPassed (patterns : List Pattern) (p : List ℕ → Bool) : Type 0 w
   pub passes : p (text patterns at) ≡ true
 
 pub passed : (patterns : List Pattern) (p : List ℕ → Bool) → list_any p (texts_of patterns) ≡ true → IsPassed patterns p
-unfolding text
-passed [] p some = absurd (true≢false (sym some))
-passed (one ∷ patterns) p some = elim (cases_Bool (p one.bytes.now)) [
-  | inl e ↦ record { at = 0; within = omega arith; passes = e }
-  | inr e ↦
-      (let later = passed patterns p (sym (ap (λ b. b || list_any p (texts_of patterns)) e) ∙ some) in
-      record { at = suc later.at; within = let w = later.within in omega arith; passes = later.passes })
-]
+passed patterns p some =
+    let (at, text_is, below, is, passes) = Any-from_list_any p (texts_of patterns) some in
+    let within : at < length patterns = omega (arith, below, length-map patterns (λ (one : Pattern). one.bytes.now)) in
+    record {
+      at = at;
+      within = within;
+      passes = ap p (sym (get_or-map (λ (one : Pattern). one.bytes.now) patterns at _ text_is within) ∙ is) ∙ passes;
+    }
 
 pub passed_by : (patterns : List Pattern) (p : List ℕ → Bool) (at : ℕ) → at < length patterns
     → p (text patterns at) ≡ true → list_any p (texts_of patterns) ≡ true
-unfolding text
-passed_by [] p at within passes = absurd (omega arith)
-passed_by (one ∷ patterns) p zero within passes = ap (λ b. b || list_any p (texts_of patterns)) passes
-passed_by (one ∷ patterns) p (suc at) within passes =
-    or_right (p one.bytes.now) (list_any p (texts_of patterns)) (passed_by patterns p at (omega arith) passes)
+passed_by patterns p at within passes =
+    list_any_at p (texts_of patterns) at [] (omega (arith, length-map patterns (λ (one : Pattern). one.bytes.now)))
+    (ap p (get_or-map (λ (one : Pattern). one.bytes.now) patterns at _ [] within) ∙ passes)
 
 -- ---- fronts of patterns
 
@@ -102,7 +100,7 @@ module _ {most : ℕ} {patterns : List Pattern} (ready : AreReady most patterns)
   pub row : (i j : ℕ) → range.low ≤ i → i ≤ j → j < range.high
       → get_or (text patterns i) range.depth 0 ≤ get_or (text patterns j) range.depth 0
   row i j l le u =
-      rising ready i j range.depth le (omega (arith, is.within))
+      ready.rising i j range.depth le (omega (arith, is.within))
       (is.same i l (omega arith) ∙ sym (is.same j (omega arith) u))
 
   -- from a pattern on that is longer than the path, all are

@@ -1,6 +1,6 @@
 -- Where the children of a node stand, and what a step to one of them passes.
-use Rattle.std.proofs.Common.{◌≡◌, ◌≢◌, ℕ, zero, suc, ◌+◌, ◌-◌, ◌*◌, ◌%◌, ◌<◌, ◌≤◌, Bool, true, false, List, [], ◌∷◌}
-use Rattle.std.proofs.Common.{◌++◌, length, take, drop, slice_get, Some, refl, sym, ap, ◌∙◌, subst, arith, rules}
+use Rattle.std.proofs.Common.{◌≡◌, ◌≢◌, ℕ, ◌+◌, ◌-◌, ◌*◌, ◌%◌, ◌<◌, ◌≤◌, Bool, true, false, List, ◌∷◌}
+use Rattle.std.proofs.Common.{◌++◌, length, take, drop, slice_get, Some, sym, ap, ◌∙◌, subst, arith, rules}
 use Rattle.std.proofs.Math.Seq.{take-append_seam}
 use Rattle.std.proofs.lemmas.Bool.{cases_Bool}
 use Rattle.std.proofs.lemmas.List.{length-drop, length-take-le, take-append-drop, take_rest}
@@ -12,6 +12,7 @@ use Rattle.virtiofs_map.specs.Names.{begins}
 use Rattle.virtiofs_map.specs.Steps.{count_after}
 use Rattle.virtiofs_map.specs.declared.xattrmap.trie.node.Node.{Node}
 use Rattle.virtiofs_map.proofs.BeginsLemmas.{begins_split}
+use Rattle.virtiofs_map.proofs.RuleRowLemmas.{there}
 use Rattle.virtiofs_map.proofs.LeU64Lemmas.{inside, length-row_of, row_at}
 
 -- ---- rows
@@ -36,22 +37,16 @@ module _ {image : List ℕ} {first labels : ℕ} {nodes : List Node} (has : HasR
         },
       )
 
-  -- a node below the count of them is there
-  pub there_is_one : (xs : List Node) (at : ℕ) → at < length xs → (x : Node) × (slice_get xs at ≡ Some x)
-  there_is_one [] at below = absurd (omega arith)
-  there_is_one (x ∷ xs) zero below = (x, refl)
-  there_is_one (x ∷ xs) (suc at) below = there_is_one xs at (omega arith)
-
   -- the row of the root
   pub root_there : (root : ℕ) → root ≡ 8 * first → 0 < length nodes
       → IsRootRow first labels nodes (take 24 (drop root image))
   root_there root is some =
-      let there = there_is_one nodes 0 some in
-      let row = row_there 0 there.0 there.1 in
+      let one = there nodes 0 some in
+      let row = row_there 0 one.0 one.1 in
       let same : 8 * first + 0 * 24 ≡ root = omega arith in
       record {
-        node = there.0;
-        here = there.1;
+        node = one.0;
+        here = one.1;
         is = grind arith;
       }
 
@@ -62,8 +57,8 @@ module _ {image : List ℕ} {first labels : ℕ} {nodes : List Node} (has : HasR
       → (child : Node) × (slice_get nodes (parent.base + behind) ≡ Some child) × (place + 24 ≤ length image)
       × IsRow first labels child row
   child_there {parent} {bytes} start behind place row readable below is_start is_place is_row =
-      let there = there_is_one nodes (parent.base + behind) (omega arith) in
-      let stands = row_there (parent.base + behind) there.0 there.1 in
+      let one = there nodes (parent.base + behind) (omega arith) in
+      let stands = row_there (parent.base + behind) one.0 one.1 in
       let same : 8 * first + (parent.base + behind) * 24 ≡ place = omega arith in (grind arith)
 
 -- the label of a node stands in the image at its place there

@@ -4,9 +4,9 @@ use Rattle.std.proofs.Common.{take, Contains, slice_get, Some, refl, sym, ap, �
 use Rattle.std.proofs.lemmas.Bool.{cases_lt, true≢false}
 use Rattle.std.proofs.lemmas.List.{append_assoc, length-append, take_at}
 use Rattle.std.proofs.lemmas.List.Elements.{All-same}
-use Rattle.virtiofs_map.specs.NodeParts.{IsNode, IsChild, IsReadable, IsReal, IsTrie, CountsWalk, Ends, Misses, Passes}
+use Rattle.virtiofs_map.specs.NodeParts.{IsNode, IsChild, IsReadable, IsReal, IsTrie, Ends, Misses, Passes}
 use Rattle.virtiofs_map.specs.NodeParts.{StandsAt, StaysAt, StepsTo, answer_for, answer_of, label_of}
-use Rattle.virtiofs_map.specs.FirstRule.{acts, pattern, most_shared, shared}
+use Rattle.virtiofs_map.specs.FirstRule.{CountsFronts, acts, pattern, most_shared, shared}
 use Rattle.virtiofs_map.specs.Names.{begins, fits, first}
 use Rattle.virtiofs_map.specs.Rule.{MappingRule}
 use Rattle.virtiofs_map.specs.Steps.{count_after}
@@ -192,15 +192,12 @@ module _ {side : Side} {rules : List MappingRule} {nodes : List Node} {bytes : L
             }
 
         -- and where the count is whole, so many steps were counted
-        pub stands_counted : whole ≡ true → CountsWalk side rules name node.answer start after
-        stands_counted is = record {
-          answers = answers;
-          counted = elim stays [
-            | inl ends ↦
-                (let most = most_at_end ends in let was = stands.counted in let same = ends.counted in
-                omega (arith, most, was, same))
-            | inr misses ↦
-                (let most = most_at_miss misses in let was = stands.counted in
-                omega (arith, most, was, misses.counted is))
-          ];
-        }
+        pub stands_counted : whole ≡ true → CountsFronts side rules name start after
+        stands_counted is = elim stays [
+          | inl ends ↦
+              (let most = most_at_end ends in let was = stands.counted in let same = ends.counted in
+              omega (arith, most, was, same))
+          | inr misses ↦
+              (let most = most_at_miss misses in let was = stands.counted in
+              omega (arith, most, was, misses.counted is))
+        ]

@@ -1,24 +1,29 @@
-use Rattle.std.proofs.Common.{rules}
-use Rattle.virtiofs_id_audit.specs.IdAudit.{IsAstray, ComesBack}
-use Rattle.virtiofs_map_c.specs.IdsFound.{IsAstrayTold}
-use Rattle.virtiofs_map_c.proofs.ArraysLemmas.{IsAccepted-no_fault, array_complete, array_faulty}
-use Rattle.virtiofs_map_c.proofs.IdsFoundLemmas.{tells_audit, tells_yes, of_array}
+use Rattle.std.proofs.Common.{refl, rules}
+use Rattle.virtiofs_id_audit.specs.IdAudit.{ComesBack}
+use Rattle.virtiofs_map_c.proofs.ArraysLemmas.{AreSaid-one, array_complete, array_faulty}
+use Rattle.virtiofs_map_c.proofs.IdsFoundLemmas.{not_all}
 use Rattle.virtiofs_map_c.proofs.ids.audits.virtiofs_map_ids_comes_back.Goals as goal
 
-pub returns-in-Ok-clause-answer : goal.returns-in-Ok-clause-answer
-returns-in-Ok-clause-answer c = λ list are _.
-    tells_audit (IsAstray list) (IsAstrayTold list) c.in-Ok.least _ _ _ c.write.ensures
-    (of_array _ _ c.in-Ok.ensures.decided list are).0
+pub returns-in-Yes-clause-answer : goal.returns-in-Yes-clause-answer
+returns-in-Yes-clause-answer c = λ list are _.
+    rw (AreSaid-one _ list _ are c.in-Ok.ensures.map.0) (c.in-Yes.ensures.answer, refl)
 
-pub returns-in-Ok-clause-comes_back : goal.returns-in-Ok-clause-comes_back
-returns-in-Ok-clause-comes_back c = λ list are _.
-    tells_yes (ComesBack list) c.in-Ok.least _ _ _ c.write.ensures (of_array _ _ c.in-Ok.ensures.decided list are).1
+pub returns-in-Yes-clause-comes_back : goal.returns-in-Yes-clause-comes_back
+returns-in-Yes-clause-comes_back c = λ list are _.
+    rw (AreSaid-one _ list _ are c.in-Ok.ensures.map.0) (λ _. c.in-Yes.ensures.comes_back.0 refl, λ _. search rules)
 
-pub returns-in-Ok-clause-faulty : goal.returns-in-Ok-clause-faulty
-returns-in-Ok-clause-faulty c = search (rules, IsAccepted-no_fault)
+pub returns-clause-answer : goal.returns-clause-answer
+returns-clause-answer c = λ list are _. rw (AreSaid-one _ list _ are c.in-Ok.ensures.map.0) (search rules)
+
+pub returns-clause-comes_back : goal.returns-clause-comes_back
+returns-clause-comes_back c = λ list are _.
+    rw (AreSaid-one _ list _ are c.in-Ok.ensures.map.0)
+    (not_all (ComesBack c.in-Ok.map) _ _ c.in-No.ensures.comes_back refl)
 
 pub returns-in-Err-clause-complete : goal.returns-in-Err-clause-complete
-returns-in-Err-clause-complete c = array_complete _ _ _ _ (_, c.in-Err.ensures.refused, c.tell.ensures)
+returns-in-Err-clause-complete c =
+    rw (c.tell.ensures.code, c.tell.ensures.told) (array_complete _ _ _ _ c.in-Err.ensures.refused)
 
 pub returns-in-Err-clause-faulty : goal.returns-in-Err-clause-faulty
-returns-in-Err-clause-faulty c = array_faulty _ _ _ (_, c.in-Err.ensures.refused, c.tell.ensures)
+returns-in-Err-clause-faulty c =
+    rw (c.tell.ensures.code, c.tell.ensures.told) (array_faulty _ _ _ c.in-Err.ensures.refused)

@@ -1,7 +1,7 @@
 use Rattle.std.proofs.Common.{◌≡◌, ℕ, List, append-nil, take_all, arith, rules}
 use Rattle.std.specs.Str.{IsUtf8}
 use Rattle.std.proofs.lemmas.Str.{utf8_valid_len_le, utf8_valid_len-IsUtf8}
-use Rattle.virtiofs_map_c.specs.Front.{cut_text}
+use Rattle.virtiofs_map_c.specs.Replies.{cut_text}
 use Rattle.virtiofs_map_c.proofs.sentences.front.cut_whole.Goals as goal
 
 -- a text is whole

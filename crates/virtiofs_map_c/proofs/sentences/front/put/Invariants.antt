@@ -1,4 +1,4 @@
-use Rattle.virtiofs_map_c.specs.Front.{Goes}
+use Rattle.virtiofs_map_c.specs.Replies.{Goes}
 use Rattle.virtiofs_map_c.proofs.sentences.front.put.Given as goal
 
 -- what was written so far is one text

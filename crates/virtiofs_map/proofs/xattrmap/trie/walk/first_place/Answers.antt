@@ -11,7 +11,7 @@ returns-then-answer-eq-NO_ANSWER-clause-first c = λ side rules end labels bytes
 pub returns-then-answer-eq-NO_ANSWER-clause-fronts : goal.returns-then-answer-eq-NO_ANSWER-clause-fronts
 returns-then-answer-eq-NO_ANSWER-clause-fronts c = λ side rules end labels bytes inside.
     counted_on c.args.steps.now c.new-counted.result c.walk-answer.new.steps c.add.new.self _ c.new-counted.ensures
-    (c.walk-answer.ensures.counts side rules end labels bytes inside refl).counted c.add.ensures
+    (c.walk-answer.ensures.counts side rules end labels bytes inside refl) c.add.ensures
 
 pub returns-then-answer-eq-NO_ANSWER-clause-steps : goal.returns-then-answer-eq-NO_ANSWER-clause-steps
 returns-then-answer-eq-NO_ANSWER-clause-steps c = λ side rules end labels bytes inside.
@@ -26,7 +26,7 @@ returns-else-answer-eq-NO_ANSWER-clause-first c = λ side rules end labels bytes
 pub returns-else-answer-eq-NO_ANSWER-clause-fronts : goal.returns-else-answer-eq-NO_ANSWER-clause-fronts
 returns-else-answer-eq-NO_ANSWER-clause-fronts c = λ side rules end labels bytes inside.
     counted_on c.args.steps.now c.new-counted.result c.walk-answer.new.steps c.add.new.self _ c.new-counted.ensures
-    (c.walk-answer.ensures.counts side rules end labels bytes inside refl).counted c.add.ensures
+    (c.walk-answer.ensures.counts side rules end labels bytes inside refl) c.add.ensures
 
 pub returns-else-answer-eq-NO_ANSWER-clause-steps : goal.returns-else-answer-eq-NO_ANSWER-clause-steps
 returns-else-answer-eq-NO_ANSWER-clause-steps c = λ side rules end labels bytes inside.

@@ -1,5 +1,5 @@
 use Rattle.std.proofs.Common.{◌-◌, ℕ, length, sym, subst, arith}
-use Rattle.virtiofs_map.specs.NodeParts.{CountsWalk, Passes, placed}
+use Rattle.virtiofs_map.specs.NodeParts.{Passes, placed}
 use Rattle.virtiofs_map.proofs.xattrmap.trie.walk.StandingLemmas.{stands_at_root, stands_counted, stands_on, stands_passed, stands_readable}
 use Rattle.virtiofs_map.proofs.xattrmap.trie.walk.walk.Goals as goal
 
@@ -38,8 +38,6 @@ returns-clause-passes c = λ side rules end labels bytes inside.
 pub returns-clause-counts : goal.returns-clause-counts
 returns-clause-counts c = λ side rules end labels bytes inside whole.
     (let (node, is, stands) = c.loop-child.invariant.stands side rules end labels bytes inside in
-    subst (λ (answer : ℕ). CountsWalk side rules c.args.name.now answer c.args.steps.now c.enter.new.steps)
-    (sym (c.answer_of.ensures (placed inside.first labels node) is))
-    (stands_counted inside.trie stands
+    stands_counted inside.trie stands
     (c.in_default.ensures.step inside.first labels inside.nodes bytes node inside.rows_of inside.texts
-    (stands_readable inside.trie stands) is) whole))
+    (stands_readable inside.trie stands) is) whole)

@@ -1,4 +1,0 @@
-use Rattle.virtiofs_findings.proofs.explain.ids.of_host.Goals as goal
-
-pub returns-in-Ok : goal.returns-in-Ok
-returns-in-Ok c = rw c.into_inner.ensures (rw c.from.ensures at c.in-Ok.ensures.looks_up.value)

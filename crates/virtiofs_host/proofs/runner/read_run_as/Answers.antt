@@ -1,6 +1,0 @@
-use Rattle.std.proofs.Common.{arith}
-use Rattle.virtiofs_host.proofs.FieldLemmas.{some_parts}
-use Rattle.virtiofs_host.proofs.runner.read_run_as.Goals as goal
-
-pub returns-then-is_some-clause-none : goal.returns-then-is_some-clause-none
-returns-then-is_some-clause-none c = grind (arith, some_parts)
